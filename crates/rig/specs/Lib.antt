@@ -1,0 +1,4 @@
+pub mod Units
+pub mod Laws
+pub mod Calls
+pub mod Codes
