@@ -1,0 +1,27 @@
+// A new body, by its design.
+ghost use Rattle.kinds.specs.Designs.{Made};
+use super::Body;
+use super::super::constant::Constant;
+use super::super::design::Design;
+use super::super::design::Misfit;
+use super::super::gain::Gain;
+use super::super::integrator::Integrator;
+
+impl Body {
+    /// A body with the design's state and each input 0, or the first cause against it.
+    pub fn new(design: Design) -> Result<Body, Misfit>
+        ensures { λ r. ⌜ Made design r ⌝ }
+    {
+        match design {
+            Design::Integrator { x, lo, hi, m } => match Integrator::new(x, lo, hi, m) {
+                Ok(integrator) => Ok(Body::Integrator(integrator)),
+                Err(misfit) => Err(misfit),
+            },
+            Design::Gain { a, b, c } => match Gain::new(a, b, c) {
+                Ok(gain) => Ok(Body::Gain(gain)),
+                Err(misfit) => Err(misfit),
+            },
+            Design::Constant { v } => Ok(Body::Constant(Constant::new(v))),
+        }
+    }
+}
