@@ -1,0 +1,2 @@
+// The rig whose units a units file or a host in code describes: integrators, gains and constants in one table.
+pub mod unit;
