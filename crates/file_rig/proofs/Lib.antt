@@ -1,1 +1,3 @@
 pub mod OneKind
+pub mod Lending
+pub mod Soundness
