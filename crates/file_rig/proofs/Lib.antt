@@ -1,3 +1,4 @@
 pub mod OneKind
 pub mod Lending
+pub mod Finding
 pub mod Soundness

@@ -12,3 +12,4 @@ pub struct FileRig {
 mod lending;
 pub mod adding;
 pub mod calls;
+pub mod refusal;

@@ -1,6 +1,6 @@
 // A file rig behind the interface of a rig.
 ghost use mathlib.Core.Path.{_≡_};
-ghost use Rattle.rig.specs.Calls.{Called, put};
+ghost use Rattle.rig.specs.Calls.{Called, put, step, save, restore, free};
 ghost use Rattle.file_rig.specs.Table.{unitsOf, namesOf};
 use super::FileRig;
 use super::lending::count;
@@ -18,6 +18,7 @@ use rig::cause::RigFault;
 use rig::shape::Ports;
 use rig::shape::Status;
 
+/// No call changes a name.
 pub impl Rig for FileRig as FileRigRig {
     type Signal = i32;
 
@@ -50,19 +51,31 @@ pub impl Rig for FileRig as FileRigRig {
         get_at(&self.units, unit, port)
     }
 
-    fn step(&mut self, unit: usize, h: u32) -> Result<u32, RigFault> {
+    fn step(&mut self, unit: usize, h: u32) -> Result<u32, RigFault>
+        ensures call { λ r. ⌜ Called (step h) (unitsOf (now (self .entry))) unit r (unitsOf (now (self .exit))) ⌝ }
+        ensures names { λ _. ⌜ namesOf (now (self .exit)) ≡ namesOf (now (self .entry)) ⌝ }
+    {
         step_at(&mut self.units, unit, h)
     }
 
-    fn save(&mut self, unit: usize, place: usize) -> Result<(), RigFault> {
+    fn save(&mut self, unit: usize, place: usize) -> Result<(), RigFault>
+        ensures call { λ r. ⌜ Called (save place) (unitsOf (now (self .entry))) unit r (unitsOf (now (self .exit))) ⌝ }
+        ensures names { λ _. ⌜ namesOf (now (self .exit)) ≡ namesOf (now (self .entry)) ⌝ }
+    {
         save_at(&mut self.units, unit, place)
     }
 
-    fn restore(&mut self, unit: usize, place: usize) -> Result<(), RigFault> {
+    fn restore(&mut self, unit: usize, place: usize) -> Result<(), RigFault>
+        ensures call { λ r. ⌜ Called (restore place) (unitsOf (now (self .entry))) unit r (unitsOf (now (self .exit))) ⌝ }
+        ensures names { λ _. ⌜ namesOf (now (self .exit)) ≡ namesOf (now (self .entry)) ⌝ }
+    {
         restore_at(&mut self.units, unit, place)
     }
 
-    fn free(&mut self, unit: usize, place: usize) -> Result<(), RigFault> {
+    fn free(&mut self, unit: usize, place: usize) -> Result<(), RigFault>
+        ensures call { λ r. ⌜ Called (free place) (unitsOf (now (self .entry))) unit r (unitsOf (now (self .exit))) ⌝ }
+        ensures names { λ _. ⌜ namesOf (now (self .exit)) ≡ namesOf (now (self .entry)) ⌝ }
+    {
         free_at(&mut self.units, unit, place)
     }
 }

@@ -1,10 +1,15 @@
 // Each call of a rig, made of the one record that the table lends.
 ghost use mathlib.Core.Path.{_≡_};
-ghost use Prim.Native.Nat.{ℕ, _≤_};
+ghost use mathlib.Core.Bool.{cond};
+ghost use Prim.Native.Nat.{ℕ, _≤_, _+_};
+ghost use Rattle.std.specs.Of.Vec.{vec-items, vec-len};
+ghost use Rattle.std.specs.Results.{isOk};
 ghost use Rattle.rig.specs.Calls.{answerOf, ports, mask, status, put, get, step, save, restore, free};
 ghost use lib.ListN.{length};
-ghost use Rattle.file_rig.specs.Table.{unitsIn, nameAt, Lent};
+ghost use Rattle.file_rig.specs.Table.{unitsIn, namesIn, nameAt, Lent};
+ghost use Rattle.file_rig.specs.Adding.{FoundAt, Pushed};
 use super::super::unit::FileUnit;
+use kinds::body::Body;
 use names::name::Name;
 use rig::cause::Cause;
 use rig::cause::RigFault;
@@ -12,6 +17,7 @@ use rig::cause::Target;
 use rig::numbering::blame;
 use rig::shape::Ports;
 use rig::shape::Status;
+use std::alloc::AllocError;
 
 /// The refusal of a call of a unit that is not there.
 fn missing(unit: usize, target: Target) -> RigFault
@@ -32,6 +38,27 @@ pub(super) fn name_at(units: &[FileUnit], unit: usize) -> Option<Name>
     match units.get(unit) {
         Some(record) => Some(record.name()),
         None => None,
+    }
+}
+
+pub(super) fn find_in(units: &[FileUnit], name: &[u8]) -> Option<usize>
+    ensures { λ r. ⌜ FoundAt (namesIn (now (units .entry))) (now (name .entry)) r ⌝ }
+{
+    for (unit, record) in units.iter().enumerate() {
+        if record.name().is(name) {
+            return Some(unit);
+        }
+    }
+    None
+}
+
+pub(super) fn push_unit(units: &mut Vec<FileUnit>, name: Name, body: Body) -> Result<(), AllocError>
+    ensures added { λ r. ⌜ Pushed (vec-items (now (units .entry))) name body r (vec-items (now (units .exit))) ⌝ }
+    ensures count { λ r. ⌜ vec-len (now (units .exit)) ≡ cond (isOk r) (vec-len (now (units .entry)) + 1) (vec-len (now (units .entry))) ⌝ }
+{
+    match units.push(FileUnit::new(name, body)) {
+        Ok(()) => Ok(()),
+        Err(_) => Err(AllocError),
     }
 }
 
