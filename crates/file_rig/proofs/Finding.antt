@@ -31,7 +31,7 @@ module _ (xs : List FileUnit) (u : ℕ) (x : FileUnit) (inside : u < length xs) 
 
   pub not-here : b ≡ false → NotBelow → (k : ℕ) → k < u + 1 → getD (namesIn xs) k [] ≡ name → ⊥
   not-here f below = below-more (λ k. getD (namesIn xs) k [] ≡ name → ⊥) u below
-    (λ e. let t : b ≡ true = same .1 (sym name-read ∙ e) in let z : _≡_ {A = ℕ} 0 1 = cc in omega arith)
+      (λ e. let t : b ≡ true = same .1 (sym name-read ∙ e) in let z : _≡_ {A = ℕ} 0 1 = cc in omega arith)
 
 -- past the last unit no name is left
 pub not-found : (xs : List FileUnit) (u : ℕ) (name : List ℕ) → length xs ≤ u → ((k : ℕ) → k < u → getD (namesIn xs) k [] ≡ name → ⊥) → FoundAt (namesIn xs) name None
@@ -46,9 +46,9 @@ fresh-unit x b e f = let h = f .held in let p = f .places in rw (e, h, p)
 
 -- a record at the end of the table is a unit more
 pub extended : (xs ys : List FileUnit) (x : FileUnit) (name : Name) (b : Body) → ys ≡ xs ++ x ∷ [] → x .name ≡ name → x .kind ≡ kindOf b → Fresh b (x .memory)
-  → Extended xs (textOf name) (freshUnit (kindOf b) (heldOf b)) ys
+    → Extended xs (textOf name) (freshUnit (kindOf b) (heldOf b)) ys
 extended xs ys x name b e n k f =
     record {
       units = ap unitsIn e ∙ map-push unitOf xs x ∙ ap (λ z. unitsIn xs ++ z ∷ []) (fresh-unit x b k f);
-      names = ap namesIn e ∙ map-push nameOf xs x ∙ ap (λ z. namesIn xs ++ textOf z ∷ []) n
+      names = ap namesIn e ∙ map-push nameOf xs x ∙ ap (λ z. namesIn xs ++ textOf z ∷ []) n;
     }

@@ -40,7 +40,7 @@ module _ {T : Type 0} (k : Call ℤ T) (xs : List FileUnit) (u : ℕ) (f : RigFa
   called-past = subst (λ z. Called k (unitsIn xs) u (Err z) (unitsIn xs)) (sym e) (called-missing k (unitsIn xs) u (simp length-map past))
 
 pub lent-missing : {T : Type 0} (k : Call ℤ T) (v : Vec FileUnit Global) (u : ℕ) (f : RigFault) → f ≡ record { cause = NoSuch; unit = u; target = k .target }
-  → length (vec-items v) ≤ u → Lent k v u (Err f) v
+    → length (vec-items v) ≤ u → Lent k v u (Err f) v
 lent-missing k v u f e past = record { call = called-past k (vec-items v) u f e past; names = refl; count = refl }
 
 -- the record x
@@ -52,7 +52,7 @@ module _ {T : Type 0} (k : Call ℤ T) (xs : List FileUnit) (u : ℕ) (x : FileU
   told-there r q named e = named ∙ answer-there k (unitsIn xs) u (nth-mapped unitOf xs u x there) e
 
   called-set : (r : Result T Cause) (q : Result T RigFault) → q ≡ blamed u (k .target) r → (y : FileUnit) → UnitCalled k (unitOf x) r (unitOf y)
-    → Called k (unitsIn xs) u q (unitsIn (set xs u y))
+      → Called k (unitsIn xs) u q (unitsIn (set xs u y))
   called-set r q named y d =
       let w = called-there k (unitsIn xs) u (nth-mapped unitOf xs u x there) d in
       record { answer = named ∙ w .answer; units = map-set unitOf xs u y ∙ w .units }
@@ -63,11 +63,11 @@ module _ {T : Type 0} (k : Call ℤ T) (xs : List FileUnit) (u : ℕ) (x : FileU
 
 -- the record x, which the call leaves as y
 pub lent-there : {T : Type 0} (k : Call ℤ T) (v : Vec FileUnit Global) (u : ℕ) (x : FileUnit) → u < length (vec-items v) → x ≡ getD (vec-items v) u x
-  → (r : Result T Cause) (q : Result T RigFault) → q ≡ blamed u (k .target) r → (y : FileUnit) → UnitCalled k (unitOf x) r (unitOf y) → y .name ≡ x .name
-  → Lent k v u q (with-item v u y)
+    → (r : Result T Cause) (q : Result T RigFault) → q ≡ blamed u (k .target) r → (y : FileUnit) → UnitCalled k (unitOf x) r (unitOf y) → y .name ≡ x .name
+    → Lent k v u q (with-item v u y)
 lent-there k v u x inside read r q named y d e =
     record {
       call = called-set k (vec-items v) u x inside read r q named y d;
       names = names-set k (vec-items v) u x inside read y e;
-      count = refl
+      count = refl;
     }

@@ -39,18 +39,25 @@ module _ (k : Kind) where
 
   module _ (p : ℕ) (m n : Memory Body) (r : Result (Unit {0}) Cause) (holds : ofKind k (m .held) ≡ true) (keeps : allOfKind k (m .places) ≡ true) where
     pub saved-kind : Saved p m r n → OneKind n
-    saved-kind s =
-        ( ap (ofKind k) (s .held) ∙ holds
-        , ( ap (allOfKind k) (s .places) ∙ both-ways (allOfKind k) (isOk r) (set (m .places) p (m .held)) (m .places) (kind-set (m .places) p (m .held) keeps holds) keeps
-          , tt ) )
+    saved-kind s = (
+      ap (ofKind k) (s .held) ∙ holds,
+      (
+        ap (allOfKind k) (s .places) ∙ both-ways (allOfKind k) (isOk r) (set (m .places) p (m .held)) (m .places) (kind-set (m .places) p (m .held) keeps holds) keeps,
+        tt,
+      ),
+    )
 
     pub restored-kind : Restored p m r n → OneKind n
-    restored-kind s =
-        ( ap (ofKind k) (s .held) ∙ both-ways (ofKind k) (isOk r) (getD (m .places) p None) (m .held) (kind-at (m .places) p keeps) holds
-        , (ap (allOfKind k) (s .places) ∙ keeps, tt) )
+    restored-kind s = (
+      ap (ofKind k) (s .held) ∙ both-ways (ofKind k) (isOk r) (getD (m .places) p None) (m .held) (kind-at (m .places) p keeps) holds,
+      (ap (allOfKind k) (s .places) ∙ keeps, tt),
+    )
 
     pub freed-kind : Freed p m r n → OneKind n
-    freed-kind s =
-        ( ap (ofKind k) (s .held) ∙ holds
-        , ( ap (allOfKind k) (s .places) ∙ both-ways (allOfKind k) (isOk r) (set (m .places) p None) (m .places) (kind-set (m .places) p None keeps refl) keeps
-          , tt ) )
+    freed-kind s = (
+      ap (ofKind k) (s .held) ∙ holds,
+      (
+        ap (allOfKind k) (s .places) ∙ both-ways (allOfKind k) (isOk r) (set (m .places) p None) (m .places) (kind-set (m .places) p None keeps refl) keeps,
+        tt,
+      ),
+    )

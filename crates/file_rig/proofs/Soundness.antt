@@ -53,7 +53,7 @@ sound-unit x =
       reads = reads-masked (x .kind);
       four = length-map (x .memory .places) (mapped heldOf) ∙ x .memory .four;
       held = suits-in (x .kind) (x .memory .held) (x .holds);
-      kept = all-suit (x .kind) (x .memory .places) (x .keeps)
+      kept = all-suit (x .kind) (x .memory .places) (x .keeps);
     }
 
 each-sound : (xs : List FileUnit) → All SoundUnit (unitsIn xs)

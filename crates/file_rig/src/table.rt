@@ -9,7 +9,8 @@ pub struct FileRig {
     ghost few: { vec-len units ≤ 16 },
 }
 
-mod lending;
 pub mod adding;
 pub mod calls;
+mod lending;
 pub mod refusal;
+pub mod words;

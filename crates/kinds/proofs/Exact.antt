@@ -87,7 +87,7 @@ module _ (x u : ℤ) (h : ℕ) (fx : SFits w32 x) (fu : SFits w32 u) (few : h �
       (wide-is x fx) (advance-product .whole) (signal-abs x fx) (advance-product .small) (omega arith)
 
 module _ (a b k u0 u1 : ℤ) (fa : SFits w32 a) (fb : SFits w32 b) (fk : SFits w32 k) (f0 : SFits w32 u0) (f1 : SFits w32 u1)
-         (la : natAbs a ≤ 1000000) (lb : natAbs b ≤ 1000000) where
+    (la : natAbs a ≤ 1000000) (lb : natAbs b ≤ 1000000) where
   pub first-term : Exactly (wide a *ℤ wide u0) (a *ℤ u0) 2147483648000000
   first-term = product-swapped a u0 (wide a) (wide u0) (wide-is a fa) (wide-is u0 f0) la f0
 

@@ -57,8 +57,8 @@ longest-step x lo hi m u w = record { takes = λ h l. takes x lo hi m u h w l; l
 
 -- the code's numbers for the rules': what is not between the stops in one is not in the other
 pub not-between : (i : Integrator) (h : ℕ) → SFits w32 (i .x) → SFits w32 (i .u) → SFits w32 (i .lo) → SFits w32 (i .hi)
-  → (r : ℤ) → SFits w64 r → r ≡ toZ w32 (ofZ w32 (i .x)) +ℤ toZ w32 (ofZ w32 (i .u)) *ℤ pos h
-  → (Between (toZ w32 (ofZ w32 (i .lo))) (toZ w64 (ofZ w64 r)) (toZ w32 (ofZ w32 (i .hi))) → ⊥) → Between (i .lo) (i .x +ℤ i .u *ℤ pos h) (i .hi) → ⊥
+    → (r : ℤ) → SFits w64 r → r ≡ toZ w32 (ofZ w32 (i .x)) +ℤ toZ w32 (ofZ w32 (i .u)) *ℤ pos h
+    → (Between (toZ w32 (ofZ w32 (i .lo))) (toZ w64 (ofZ w64 r)) (toZ w32 (ofZ w32 (i .hi))) → ⊥) → Between (i .lo) (i .x +ℤ i .u *ℤ pos h) (i .hi) → ⊥
 not-between i h fx fu fl fh r fr e out t =
     let x = toZ-ofZ w32 (i .x) fx in let u = toZ-ofZ w32 (i .u) fu in
     let l = toZ-ofZ w32 (i .lo) fl in let g = toZ-ofZ w32 (i .hi) fh in
@@ -69,14 +69,14 @@ within : (i : Integrator) → Between (i .lo) (i .x) (i .hi)
 within i = record { above = i .above; below = i .below }
 
 moves : (i j : Integrator) (h : ℕ)
-  → TakesStep i h × (integratorHeld j ≡ record { state = (i .x +ℤ i .u *ℤ pos h) ∷ i .lo ∷ i .hi ∷ pos (i .m) ∷ []; inputs = i .u ∷ [] })
-  → (h ≤ boundBody (bodies.Integrator i)) × Becomes (bodies.Integrator i) (nextBy (bodies.Integrator i) h) (bodies.Integrator j)
+    → TakesStep i h × (integratorHeld j ≡ record { state = (i .x +ℤ i .u *ℤ pos h) ∷ i .lo ∷ i .hi ∷ pos (i .m) ∷ []; inputs = i .u ∷ [] })
+    → (h ≤ boundBody (bodies.Integrator i)) × Becomes (bodies.Integrator i) (nextBy (bodies.Integrator i) h) (bodies.Integrator j)
 moves i j h t = (longest-step (i .x) (i .lo) (i .hi) (i .m) (i .u) (within i) .longest h (t .0), record { kind = refl; held = t .1 })
 
 -- an integrator's body, moved where it takes the step and with BOUND below the step where it does not
 pub body-moves : (b : Body) (i j : Integrator) (h : ℕ) → b ≡ bodies.Integrator i
-  → TakesStep i h × (integratorHeld j ≡ record { state = (i .x +ℤ i .u *ℤ pos h) ∷ i .lo ∷ i .hi ∷ pos (i .m) ∷ []; inputs = i .u ∷ [] })
-  → (h ≤ boundBody b) × Becomes b (nextBy b h) (bodies.Integrator j)
+    → TakesStep i h × (integratorHeld j ≡ record { state = (i .x +ℤ i .u *ℤ pos h) ∷ i .lo ∷ i .hi ∷ pos (i .m) ∷ []; inputs = i .u ∷ [] })
+    → (h ≤ boundBody b) × Becomes b (nextBy b h) (bodies.Integrator j)
 body-moves b i j h e t = subst (λ (z : Body). (h ≤ boundBody z) × Becomes z (nextBy z h) (bodies.Integrator j)) (sym e) (moves i j h t)
 
 pub body-stays : (b : Body) (i : Integrator) (h : ℕ) → b ≡ bodies.Integrator i → (TakesStep i h → ⊥) → boundBody b < h

@@ -33,7 +33,7 @@ TakesStep i h = Takes (i .x) (i .lo) (i .hi) (i .m) (i .u) h
 -- an integrator moved by h ticks, or none where it does not take them
 abbrev pub Advanced : Integrator → ℕ → Option Integrator → Type 0
 Advanced i h r = BySome r (TakesStep i h → ⊥)
-  (λ j. TakesStep i h × (integratorHeld j ≡ record { state = (i .x +ℤ i .u *ℤ pos h) ∷ i .lo ∷ i .hi ∷ pos (i .m) ∷ []; inputs = i .u ∷ [] }))
+    (λ j. TakesStep i h × (integratorHeld j ≡ record { state = (i .x +ℤ i .u *ℤ pos h) ∷ i .lo ∷ i .hi ∷ pos (i .m) ∷ []; inputs = i .u ∷ [] }))
 
 abbrev pub rulesOf : Kind → Rules ℤ
 rulesOf kinds.Integrator = integrator

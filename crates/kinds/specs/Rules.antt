@@ -48,8 +48,8 @@ integrator = record {
   masks = 0 ∷ [];
   out = λ port st ins. item st 0;
   bound = λ st ins. boundBy (item st 0) (item st 1) (item st 2) (natAbs (item st 3)) (item ins 0);
-  next = λ st ins h. set st 0 (item st 0 +ℤ item ins 0 *ℤ pos h)
- }
+  next = λ st ins h. set st 0 (item st 0 +ℤ item ins 0 *ℤ pos h);
+}
 
 -- state a, b, c; inputs u0, u1
 abbrev pub gain : Rules ℤ
@@ -58,8 +58,8 @@ gain = record {
   masks = 3 ∷ [];
   out = λ port st ins. toSignal (item st 0 *ℤ item ins 0 +ℤ item st 1 *ℤ item ins 1 +ℤ item st 2);
   bound = λ st ins. 1000000;
-  next = λ st ins h. st
- }
+  next = λ st ins h. st;
+}
 
 -- state v
 abbrev pub constant : Rules ℤ
@@ -68,5 +68,5 @@ constant = record {
   masks = 0 ∷ [];
   out = λ port st ins. item st 0;
   bound = λ st ins. 1000000;
-  next = λ st ins h. st
- }
+  next = λ st ins h. st;
+}

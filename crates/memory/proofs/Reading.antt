@@ -62,8 +62,8 @@ module _ {X S : Type 0} (k : Rules S) (f : X → Held S) where
     told = save-mapped f p (m .held) (m .places) ∙ sym (s .answer)
 
     kept : (q : Result (Unit {0}) Cause) → saveAnswer p (mapped f (m .held)) (map (mapped f) (m .places)) ≡ q
-      → n .places ≡ cond (isOk q) (set (m .places) p (m .held)) (m .places)
-      → unitFrom k f n ≡ unitAfter (save p) (unitFrom k f m) (saveAnswer p (mapped f (m .held)) (map (mapped f) (m .places)))
+        → n .places ≡ cond (isOk q) (set (m .places) p (m .held)) (m .places)
+        → unitFrom k f n ≡ unitAfter (save p) (unitFrom k f m) (saveAnswer p (mapped f (m .held)) (map (mapped f) (m .places)))
     kept (Ok t) a e = with-same (s .held) e ∙ ap (λ z. record { rules = k; held = mapped f (m .held); places = z }) (map-set (mapped f) (m .places) p (m .held)) ∙ sym (ap (unitAfter (save p) (unitFrom k f m)) a)
     kept (Err x) a e = with-same (s .held) e ∙ sym (ap (unitAfter (save p) (unitFrom k f m)) a)
 
@@ -73,7 +73,7 @@ module _ {X S : Type 0} (k : Rules S) (f : X → Held S) where
     told = back-mapped f p (m .places) ∙ sym (s .answer)
 
     kept : (q : Result (Unit {0}) Cause) → backAnswer p (map (mapped f) (m .places)) ≡ q → n .held ≡ cond (isOk q) (getD (m .places) p None) (m .held)
-      → unitFrom k f n ≡ unitAfter (restore p) (unitFrom k f m) (backAnswer p (map (mapped f) (m .places)))
+        → unitFrom k f n ≡ unitAfter (restore p) (unitFrom k f m) (backAnswer p (map (mapped f) (m .places)))
     kept (Ok t) a e = with-same e (s .places) ∙ ap (λ z. record { rules = k; held = z; places = map (mapped f) (m .places) }) (sym (place-mapped f (m .places) p)) ∙ sym (ap (unitAfter (restore p) (unitFrom k f m)) a)
     kept (Err x) a e = with-same e (s .places) ∙ sym (ap (unitAfter (restore p) (unitFrom k f m)) a)
 
@@ -83,6 +83,6 @@ module _ {X S : Type 0} (k : Rules S) (f : X → Held S) where
     told = back-mapped f p (m .places) ∙ sym (s .answer)
 
     kept : (q : Result (Unit {0}) Cause) → backAnswer p (map (mapped f) (m .places)) ≡ q → n .places ≡ cond (isOk q) (set (m .places) p None) (m .places)
-      → unitFrom k f n ≡ unitAfter (free p) (unitFrom k f m) (backAnswer p (map (mapped f) (m .places)))
+        → unitFrom k f n ≡ unitAfter (free p) (unitFrom k f m) (backAnswer p (map (mapped f) (m .places)))
     kept (Ok t) a e = with-same (s .held) e ∙ ap (λ z. record { rules = k; held = mapped f (m .held); places = z }) (map-set (mapped f) (m .places) p None) ∙ sym (ap (unitAfter (free p) (unitFrom k f m)) a)
     kept (Err x) a e = with-same (s .held) e ∙ sym (ap (unitAfter (free p) (unitFrom k f m)) a)

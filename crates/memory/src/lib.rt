@@ -16,7 +16,10 @@ impl<T: Copy> Memory<T> {
     pub fn new(contents: T) -> Memory<T>
         ensures { λ r. ⌜ Fresh contents r ⌝ }
     {
-        Memory { held: Some(contents), places: [None; 4] }
+        Memory {
+            held: Some(contents),
+            places: [None; 4],
+        }
     }
 
     /// Whether the unit is loose, and which places are filled.
@@ -24,7 +27,10 @@ impl<T: Copy> Memory<T> {
         ensures { λ r. ⌜ r ≡ statusOf (now (self .entry) .held) (now (self .entry) .places) ⌝ }
     {
         let [a, b, c, d] = self.places;
-        Status { loose: self.held.is_none(), filled: [a.is_some(), b.is_some(), c.is_some(), d.is_some()] }
+        Status {
+            loose: self.held.is_none(),
+            filled: [a.is_some(), b.is_some(), c.is_some(), d.is_some()],
+        }
     }
 
     /// Copies the contents into an empty place.

@@ -108,8 +108,8 @@ abbrev pub mask : {S : Type 0} → ℕ → Call S ℕ
 mask port = record {
   target = Port port;
   answer = λ x. require (ltb port (length (x .rules .masks))) NoSuch (Ok (getD (x .rules .masks) port 0));
-  effect = unchanged
- }
+  effect = unchanged;
+}
 
 abbrev pub status : {S : Type 0} → Call S Status
 status = record { target = Whole; answer = λ x. Ok (statusOf (x .held) (x .places)); effect = unchanged }
@@ -118,22 +118,22 @@ abbrev pub put : {S : Type 0} → ℕ → S → Call S (Unit {0})
 put port v = record {
   target = Port port;
   answer = λ x. require (ltb port (x .rules .inputs)) NoSuch (inPlace (x .held) (λ _. Ok tt));
-  effect = fed port v
- }
+  effect = fed port v;
+}
 
 abbrev pub get : {S : Type 0} → ℕ → Call S S
 get port = record {
   target = Port port;
   answer = λ x. require (ltb port (length (x .rules .masks))) NoSuch (inPlace (x .held) (λ a. Ok (outOf x port a)));
-  effect = unchanged
- }
+  effect = unchanged;
+}
 
 abbrev pub step : {S : Type 0} → ℕ → Call S ℕ
 step h = record {
   target = Whole;
   answer = λ x. require (leb 1 h && leb h 1000000) StepRange (inPlace (x .held) (λ a. Ok (min h (boundOf x a))));
-  effect = stepped h
- }
+  effect = stepped h;
+}
 
 abbrev pub save : {S : Type 0} → ℕ → Call S (Unit {0})
 save p = record { target = Place p; answer = λ x. saveAnswer p (x .held) (x .places); effect = saved p }

@@ -21,7 +21,7 @@ AgreeOn mask inputs xs ys = (i : ℕ) → i < inputs → bit mask i ≡ 1 → nt
 -- OUT reads only the inputs in the output's mask
 abbrev pub ReadsMasked : {S : Type 0} → Rules S → Type 0
 ReadsMasked {S} k = (port : ℕ) → port < length (k .masks) → (st : List ℤ) (xs ys : List S) → length xs ≡ k .inputs → length ys ≡ k .inputs
-  → AgreeOn (getD (k .masks) port 0) (k .inputs) xs ys → k .out port st xs ≡ k .out port st ys
+    → AgreeOn (getD (k .masks) port 0) (k .inputs) xs ys → k .out port st xs ≡ k .out port st ys
 
 -- contents that suit the rules: one signal for each input, and BOUND at most 1,000,000 whatever the inputs are
 pub record Suits {S : Type 0} (k : Rules S) (a : Held S) : Type 0 where

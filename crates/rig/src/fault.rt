@@ -6,6 +6,17 @@ use super::cause::Target;
 use refusal::Code;
 
 impl RigFault {
+    /// The refusal for this cause, by this unit, of what was asked of it.
+    pub fn new(cause: Cause, unit: usize, target: Target) -> RigFault
+        ensures { λ r. ⌜ r ≡ record { cause = cause; unit = unit; target = target } ⌝ }
+    {
+        RigFault {
+            cause,
+            unit,
+            target,
+        }
+    }
+
     /// The refusal by its numbers.
     pub fn code(self) -> Code
         ensures { λ r. ⌜ r ≡ codeOf self ⌝ }
@@ -22,6 +33,11 @@ impl RigFault {
             Target::Port(port) => port,
             Target::Place(place) => place,
         };
-        Code { number, layer: 4, a: self.unit, b }
+        Code {
+            number,
+            layer: 4,
+            a: self.unit,
+            b,
+        }
     }
 }

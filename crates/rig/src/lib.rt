@@ -14,6 +14,7 @@ pub mod cause;
 pub mod fault;
 pub mod numbering;
 pub mod shape;
+pub mod words;
 
 /// Units behind one interface; `model` tells what each unit is and holds.
 pub trait Rig {

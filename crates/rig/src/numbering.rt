@@ -11,7 +11,7 @@ pub fn blame<T>(answer: Result<T, Cause>, unit: usize, target: Target) -> Result
 {
     match answer {
         Ok(told) => Ok(told),
-        Err(cause) => Err(RigFault { cause, unit, target }),
+        Err(cause) => Err(RigFault::new(cause, unit, target)),
     }
 }
 
@@ -21,6 +21,6 @@ pub fn renumber<T>(answer: Result<T, RigFault>, unit: usize) -> Result<T, RigFau
 {
     match answer {
         Ok(told) => Ok(told),
-        Err(fault) => Err(RigFault { cause: fault.cause, unit, target: fault.target }),
+        Err(fault) => Err(RigFault::new(fault.cause, unit, fault.target)),
     }
 }

@@ -19,9 +19,11 @@ use std::alloc::Global;
 impl FileRig {
     /// A rig without units.
     pub fn new(heap: Global) -> FileRig
-        ensures { λ r. ⌜ vec-items (r .units) ≡ [] ⌝ }
+        ensures units { λ r. ⌜ unitsOf r ≡ [] ⌝ }
+        ensures names { λ r. ⌜ namesOf r ≡ [] ⌝ }
     {
-        FileRig { units: Vec::new(heap) }
+        let units = Vec::new(heap);
+        FileRig { units }
     }
 
     /// The name of a unit.

@@ -19,13 +19,6 @@ use rig::shape::Ports;
 use rig::shape::Status;
 use std::alloc::AllocError;
 
-/// The refusal of a call of a unit that is not there.
-fn missing(unit: usize, target: Target) -> RigFault
-    ensures { λ r. ⌜ r ≡ record { cause = Cause.NoSuch; unit = unit; target = target } ⌝ }
-{
-    RigFault { cause: Cause::NoSuch, unit, target }
-}
-
 pub(super) fn count(units: &[FileUnit]) -> usize
     ensures { λ r. ⌜ r ≡ length (unitsIn (now (units .entry))) ⌝ }
 {
@@ -66,7 +59,7 @@ pub(super) fn ports_at(units: &[FileUnit], unit: usize) -> Result<Ports, RigFaul
     ensures { λ r. ⌜ r ≡ answerOf ports (unitsIn (now (units .entry))) unit ⌝ }
 {
     let Some(record) = units.get(unit) else {
-        return Err(missing(unit, Target::Whole));
+        return Err(RigFault::new(Cause::NoSuch, unit, Target::Whole));
     };
     Ok(record.ports())
 }
@@ -75,7 +68,7 @@ pub(super) fn mask_at(units: &[FileUnit], unit: usize, port: usize) -> Result<u8
     ensures { λ r. ⌜ r ≡ answerOf (mask port) (unitsIn (now (units .entry))) unit ⌝ }
 {
     let Some(record) = units.get(unit) else {
-        return Err(missing(unit, Target::Port(port)));
+        return Err(RigFault::new(Cause::NoSuch, unit, Target::Port(port)));
     };
     blame(record.mask(port), unit, Target::Port(port))
 }
@@ -84,7 +77,7 @@ pub(super) fn status_at(units: &[FileUnit], unit: usize) -> Result<Status, RigFa
     ensures { λ r. ⌜ r ≡ answerOf status (unitsIn (now (units .entry))) unit ⌝ }
 {
     let Some(record) = units.get(unit) else {
-        return Err(missing(unit, Target::Whole));
+        return Err(RigFault::new(Cause::NoSuch, unit, Target::Whole));
     };
     Ok(record.status())
 }
@@ -93,16 +86,21 @@ pub(super) fn get_at(units: &[FileUnit], unit: usize, port: usize) -> Result<i32
     ensures { λ r. ⌜ r ≡ answerOf (get port) (unitsIn (now (units .entry))) unit ⌝ }
 {
     let Some(record) = units.get(unit) else {
-        return Err(missing(unit, Target::Port(port)));
+        return Err(RigFault::new(Cause::NoSuch, unit, Target::Port(port)));
     };
     blame(record.get(port), unit, Target::Port(port))
 }
 
-pub(super) fn put_at(units: &mut Vec<FileUnit>, unit: usize, port: usize, value: i32) -> Result<(), RigFault>
+pub(super) fn put_at(
+    units: &mut Vec<FileUnit>,
+    unit: usize,
+    port: usize,
+    value: i32,
+) -> Result<(), RigFault>
     ensures { λ r. ⌜ Lent (put port value) (now (units .entry)) unit r (now (units .exit)) ⌝ }
 {
     let Some(record) = units.get_mut(unit) else {
-        return Err(missing(unit, Target::Port(port)));
+        return Err(RigFault::new(Cause::NoSuch, unit, Target::Port(port)));
     };
     blame(record.put(port, value), unit, Target::Port(port))
 }
@@ -111,7 +109,7 @@ pub(super) fn step_at(units: &mut Vec<FileUnit>, unit: usize, h: u32) -> Result<
     ensures { λ r. ⌜ Lent (step h) (now (units .entry)) unit r (now (units .exit)) ⌝ }
 {
     let Some(record) = units.get_mut(unit) else {
-        return Err(missing(unit, Target::Whole));
+        return Err(RigFault::new(Cause::NoSuch, unit, Target::Whole));
     };
     blame(record.step(h), unit, Target::Whole)
 }
@@ -120,16 +118,20 @@ pub(super) fn save_at(units: &mut Vec<FileUnit>, unit: usize, place: usize) -> R
     ensures { λ r. ⌜ Lent (save place) (now (units .entry)) unit r (now (units .exit)) ⌝ }
 {
     let Some(record) = units.get_mut(unit) else {
-        return Err(missing(unit, Target::Place(place)));
+        return Err(RigFault::new(Cause::NoSuch, unit, Target::Place(place)));
     };
     blame(record.save(place), unit, Target::Place(place))
 }
 
-pub(super) fn restore_at(units: &mut Vec<FileUnit>, unit: usize, place: usize) -> Result<(), RigFault>
+pub(super) fn restore_at(
+    units: &mut Vec<FileUnit>,
+    unit: usize,
+    place: usize,
+) -> Result<(), RigFault>
     ensures { λ r. ⌜ Lent (restore place) (now (units .entry)) unit r (now (units .exit)) ⌝ }
 {
     let Some(record) = units.get_mut(unit) else {
-        return Err(missing(unit, Target::Place(place)));
+        return Err(RigFault::new(Cause::NoSuch, unit, Target::Place(place)));
     };
     blame(record.restore(place), unit, Target::Place(place))
 }
@@ -138,7 +140,7 @@ pub(super) fn free_at(units: &mut Vec<FileUnit>, unit: usize, place: usize) -> R
     ensures { λ r. ⌜ Lent (free place) (now (units .entry)) unit r (now (units .exit)) ⌝ }
 {
     let Some(record) = units.get_mut(unit) else {
-        return Err(missing(unit, Target::Place(place)));
+        return Err(RigFault::new(Cause::NoSuch, unit, Target::Place(place)));
     };
     blame(record.free(place), unit, Target::Place(place))
 }

@@ -1,7 +1,9 @@
 use kinds::design::Misfit;
+use kinds::design::MisfitDebug;
+use kinds::design::MisfitPartialEq;
 
 /// Why a unit is not added to a file rig.
-#[derive(Clone, Copy)]
+#[derive(Clone, Copy, PartialEq, Eq, Debug)]
 pub enum AddFault {
     /// The table has 16 units.
     TableFull,

@@ -22,13 +22,20 @@ impl FileUnit {
         ensures kind { λ r. ⌜ r .kind ≡ kindOf body ⌝ }
         ensures memory { λ r. ⌜ Fresh body (r .memory) ⌝ }
     {
-        FileUnit { name, kind: body.kind(), memory: Memory::new(body) }
+        FileUnit {
+            name,
+            kind: body.kind(),
+            memory: Memory::new(body),
+        }
     }
 
     pub(crate) fn ports(&self) -> Ports
         ensures { λ r. ⌜ r ≡ portsOf (unitOf (now (self .entry))) ⌝ }
     {
-        Ports { inputs: self.kind.inputs(), outputs: 1 }
+        Ports {
+            inputs: self.kind.inputs(),
+            outputs: 1,
+        }
     }
 
     pub(crate) fn mask(&self, port: usize) -> Result<u8, Cause>

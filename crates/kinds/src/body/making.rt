@@ -1,11 +1,11 @@
 // A new body, by its design.
 ghost use Rattle.kinds.specs.Designs.{Made};
-use super::Body;
 use super::super::constant::Constant;
 use super::super::design::Design;
 use super::super::design::Misfit;
 use super::super::gain::Gain;
 use super::super::integrator::Integrator;
+use super::Body;
 
 impl Body {
     /// A body with the design's state and each input 0, or the first cause against it.

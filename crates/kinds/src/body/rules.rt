@@ -2,8 +2,8 @@
 ghost use mathlib.Core.Path.{_≡_};
 ghost use Prim.Native.Nat.{ℕ, _≤_};
 ghost use Rattle.kinds.specs.Contents.{kindOf, outBy, boundBody, fedBy, Becomes, Nexts};
-use super::Body;
 use super::super::kind::Kind;
+use super::Body;
 
 impl Body {
     /// The kind of the unit.
@@ -34,8 +34,7 @@ impl Body {
     {
         match self {
             Body::Integrator(integrator) => integrator.bound(),
-            Body::Gain(_) => 1_000_000,
-            Body::Constant(_) => 1_000_000,
+            Body::Gain(_) | Body::Constant(_) => 1_000_000,
         }
     }
 
@@ -48,17 +47,11 @@ impl Body {
                 Some(moved) => Some(Body::Integrator(moved)),
                 None => None,
             },
-            Body::Gain(gain) => {
+            Body::Gain(_) | Body::Constant(_) => {
                 if h > 1_000_000 {
                     return None;
                 }
-                Some(Body::Gain(*gain))
-            }
-            Body::Constant(constant) => {
-                if h > 1_000_000 {
-                    return None;
-                }
-                Some(Body::Constant(*constant))
+                Some(*self)
             }
         }
     }

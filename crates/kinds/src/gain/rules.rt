@@ -21,7 +21,13 @@ impl Gain {
         if b < -1000 || b > 1000 {
             return Err(Misfit::FactorB);
         }
-        Ok(Gain { a, b, c, u0: 0, u1: 0 })
+        Ok(Gain {
+            a,
+            b,
+            c,
+            u0: 0,
+            u1: 0,
+        })
     }
 
     /// OUT: a × u0 + b × u1 + c, held to the signal range.
@@ -36,9 +42,21 @@ impl Gain {
         ensures { λ r. ⌜ gainHeld r ≡ record { state = gainHeld (now (self .entry)) .state; inputs = set (gainHeld (now (self .entry)) .inputs) port value } ⌝ }
     {
         if port == 0 {
-            Gain { a: self.a, b: self.b, c: self.c, u0: value, u1: self.u1 }
+            Gain {
+                a: self.a,
+                b: self.b,
+                c: self.c,
+                u0: value,
+                u1: self.u1,
+            }
         } else if port == 1 {
-            Gain { a: self.a, b: self.b, c: self.c, u0: self.u0, u1: value }
+            Gain {
+                a: self.a,
+                b: self.b,
+                c: self.c,
+                u0: self.u0,
+                u1: value,
+            }
         } else {
             *self
         }

@@ -39,7 +39,11 @@ impl Integrator {
         if self.u == 0 {
             return self.m;
         }
-        let room = if self.u > 0 { gap(self.x, self.hi) } else { gap(self.lo, self.x) };
+        let room = if self.u > 0 {
+            gap(self.x, self.hi)
+        } else {
+            gap(self.lo, self.x)
+        };
         let ticks = room / self.u.unsigned_abs();
         if ticks < self.m { ticks } else { self.m }
     }
@@ -54,7 +58,13 @@ impl Integrator {
         let Some(x) = between(self.lo, advance(self.x, self.u, h), self.hi) else {
             return None;
         };
-        Some(Integrator { x, lo: self.lo, hi: self.hi, m: self.m, u: self.u })
+        Some(Integrator {
+            x,
+            lo: self.lo,
+            hi: self.hi,
+            m: self.m,
+            u: self.u,
+        })
     }
 
     /// The input set; no other port is one.
@@ -62,7 +72,13 @@ impl Integrator {
         ensures { λ r. ⌜ integratorHeld r ≡ record { state = integratorHeld (now (self .entry)) .state; inputs = set (integratorHeld (now (self .entry)) .inputs) port value } ⌝ }
     {
         if port == 0 {
-            Integrator { x: self.x, lo: self.lo, hi: self.hi, m: self.m, u: value }
+            Integrator {
+                x: self.x,
+                lo: self.lo,
+                hi: self.hi,
+                m: self.m,
+                u: value,
+            }
         } else {
             *self
         }

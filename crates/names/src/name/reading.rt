@@ -62,7 +62,10 @@ impl Name {
         if !is_name(text) {
             return None;
         }
-        Some(Name { bytes: padded(text), len: text.len() })
+        Some(Name {
+            bytes: padded(text),
+            len: text.len(),
+        })
     }
 
     /// The text of the name.

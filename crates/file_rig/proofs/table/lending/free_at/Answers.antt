@@ -3,7 +3,7 @@ use Rattle.file_rig.proofs.Lending.{lent-missing, lent-there}
 use Rattle.file_rig.proofs.table.lending.free_at.Needs as need
 
 pub returns-in-rest : need.returns-in-rest
-returns-in-rest c = lent-missing (free (c .args .place)) (c .args .units .now) (c .args .unit) (c .missing .result) (c .missing .ensures) (c .in-rest .ensures tt .item .3)
+returns-in-rest c = lent-missing (free (c .args .place)) (c .args .units .now) (c .args .unit) (c .new .result) (c .new .ensures) (c .in-rest .ensures tt .item .3)
 
 pub returns : need.returns
 returns c =

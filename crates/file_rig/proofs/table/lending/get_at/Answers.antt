@@ -3,7 +3,7 @@ use Rattle.file_rig.proofs.Lending.{told-missing, told-there}
 use Rattle.file_rig.proofs.table.lending.get_at.Needs as need
 
 pub returns-in-rest : need.returns-in-rest
-returns-in-rest c = told-missing (get (c .args .port)) (c .args .units .now) (c .args .unit) (c .missing .result) (c .missing .ensures) (c .in-rest .ensures tt .finds .3)
+returns-in-rest c = told-missing (get (c .args .port)) (c .args .units .now) (c .args .unit) (c .new .result) (c .new .ensures) (c .in-rest .ensures tt .finds .3)
 
 pub returns : need.returns
 returns c =

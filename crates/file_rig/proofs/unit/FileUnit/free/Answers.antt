@@ -13,5 +13,5 @@ pub returns : need.returns
 returns c =
     record {
       call = freed-unit (rulesOf (c .args .self .now .kind)) heldOf (c .args .place) (c .args .self .now .memory) (c .free .last .self) (c .free .result) (c .free .ensures);
-      name = search needs
+      name = search needs;
     }

@@ -13,5 +13,5 @@ pub returns : need.returns
 returns c =
     record {
       call = restored-unit (rulesOf (c .args .self .now .kind)) heldOf (c .args .place) (c .args .self .now .memory) (c .restore .last .self) (c .restore .result) (c .restore .ensures);
-      name = search needs
+      name = search needs;
     }

@@ -13,5 +13,5 @@ pub returns : need.returns
 returns c =
     record {
       call = saved-unit (rulesOf (c .args .self .now .kind)) heldOf (c .args .place) (c .args .self .now .memory) (c .save .last .self) (c .save .result) (c .save .ensures);
-      name = search needs
+      name = search needs;
     }
