@@ -14,9 +14,14 @@ mod tests {
     use std::alloc::Global;
     use std::test::*;
 
-    const TANK: Design = Design::Integrator { x: 2, lo: 0, hi: 20, m: 100 };
+    const TANK: Design = Design::Integrator {
+        x: 2,
+        lo: 0,
+        hi: 20,
+        m: 100,
+    };
 
-    /// Number, layer, a and b of a refusal; zeros where there was none.
+    // Number, layer, a and b of a refusal; zeros where there was none.
     fn told<T: Drop>(answer: Result<T, RigFault>) -> (usize, usize, usize, usize) {
         match answer {
             Ok(_) => (0, 0, 0, 0),
@@ -27,7 +32,7 @@ mod tests {
         }
     }
 
-    /// A constant, then a tank from 2 within 0 and 20.
+    // A constant, then a tank from 2 within 0 and 20.
     fn two_units(heap: Global) -> Result<FileRig, Fail> {
         let mut rig = FileRig::new(heap);
         rig.add(b"draw", Design::Constant { v: 1 })?;
@@ -99,7 +104,14 @@ mod tests {
     fn gains_and_constants(rt: LibcRuntime) -> Result<(), Fail> {
         let mut rig = FileRig::new(rt.alloc());
         rig.add(b"net", Design::Gain { a: 2, b: -3, c: 5 })?;
-        rig.add(b"sum", Design::Gain { a: 1000, b: 1000, c: 0 })?;
+        rig.add(
+            b"sum",
+            Design::Gain {
+                a: 1000,
+                b: 1000,
+                c: 0,
+            },
+        )?;
         rig.add(b"k", Design::Constant { v: -7 })?;
         rig.put(0, 0, 10)?;
         rig.put(0, 1, 4)?;
@@ -122,15 +134,55 @@ mod tests {
         check_eq(rig.add(b"", TANK), Err(AddFault::BadName))?;
         check_eq(rig.add(b"ninechars", TANK), Err(AddFault::BadName))?;
         check_eq(rig.add(b"Tank", TANK), Err(AddFault::BadName))?;
-        check_eq(rig.add(b"tank", Design::Gain { a: 1001, b: 0, c: 0 }), Err(AddFault::NameUsed))?;
-        let left = Design::Gain { a: -1001, b: 1001, c: 0 };
-        check_eq(rig.add(b"g", left), Err(AddFault::BadDesign(Misfit::FactorA)))?;
-        let right = Design::Gain { a: -1000, b: 1001, c: 0 };
-        check_eq(rig.add(b"g", right), Err(AddFault::BadDesign(Misfit::FactorB)))?;
-        let both = Design::Integrator { x: 9, lo: 0, hi: 8, m: 0 };
-        check_eq(rig.add(b"i", both), Err(AddFault::BadDesign(Misfit::StepLimit)))?;
-        let outside = Design::Integrator { x: 9, lo: 0, hi: 8, m: 1_000_000 };
-        check_eq(rig.add(b"i", outside), Err(AddFault::BadDesign(Misfit::Outside)))?;
+        check_eq(
+            rig.add(
+                b"tank",
+                Design::Gain {
+                    a: 1001,
+                    b: 0,
+                    c: 0,
+                },
+            ),
+            Err(AddFault::NameUsed),
+        )?;
+        let left = Design::Gain {
+            a: -1001,
+            b: 1001,
+            c: 0,
+        };
+        check_eq(
+            rig.add(b"g", left),
+            Err(AddFault::BadDesign(Misfit::FactorA)),
+        )?;
+        let right = Design::Gain {
+            a: -1000,
+            b: 1001,
+            c: 0,
+        };
+        check_eq(
+            rig.add(b"g", right),
+            Err(AddFault::BadDesign(Misfit::FactorB)),
+        )?;
+        let both = Design::Integrator {
+            x: 9,
+            lo: 0,
+            hi: 8,
+            m: 0,
+        };
+        check_eq(
+            rig.add(b"i", both),
+            Err(AddFault::BadDesign(Misfit::StepLimit)),
+        )?;
+        let outside = Design::Integrator {
+            x: 9,
+            lo: 0,
+            hi: 8,
+            m: 1_000_000,
+        };
+        check_eq(
+            rig.add(b"i", outside),
+            Err(AddFault::BadDesign(Misfit::Outside)),
+        )?;
         check_eq(rig.units(), 2)?;
         check_eq(rig.find(b"tank"), Some(1))?;
         check_eq(rig.find(b"i"), None)

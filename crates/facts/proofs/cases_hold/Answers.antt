@@ -3,7 +3,7 @@ use Prim.Native.Nat.{ℕ, _≤_, min}
 use native.Mathlib.Omega.{arith}
 use Rattle.kinds.proofs.Stops.{longest-step}
 use Rattle.facts.specs.Worked.{WorkedCases, Emptied, Filled}
-use Rattle.facts.proofs.worked_cases.Needs as need
+use Rattle.facts.proofs.cases_hold.Needs as need
 
 none : (m : ℕ) → min m 0 ≡ 0
 none m = omega arith
@@ -22,4 +22,4 @@ cases = record {
 }
 
 pub returns : need.returns
-returns c = record { count = refl; hold = cases }
+returns c = cases
