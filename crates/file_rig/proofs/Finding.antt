@@ -10,14 +10,15 @@ use Rattle.std.proofs.shelf.Lists.{length-map, getD-map}
 use Rattle.std.specs.Orderings.{Decides}
 use Rattle.std.specs.declared.option.Option.the-variants.{None}
 use Rattle.kinds.specs.declared.body.Body.{Body}
-use Rattle.kinds.specs.Contents.{kindOf, heldOf}
+use Rattle.rig.specs.Units.{freshUnit}
+use Rattle.kinds.specs.Contents.{rulesOf, kindOf, heldOf}
 use Rattle.memory.specs.Kept.{Fresh}
 use Rattle.names.specs.declared.name.Name.{Name}
 use Rattle.names.specs.Names.{textOf}
 use Rattle.file_rig.specs.declared.unit.FileUnit.{FileUnit}
 use Rattle.file_rig.specs.Record.{unitOf}
 use Rattle.file_rig.specs.Table.{unitsIn, nameOf, namesIn}
-use Rattle.file_rig.specs.Adding.{FoundAt, freshUnit, Extended}
+use Rattle.file_rig.specs.Adding.{FoundAt, Extended}
 
 module _ (xs : List FileUnit) (u : ℕ) (x : FileUnit) (inside : u < length xs) (read : x ≡ getD xs u x) (name : List ℕ) (b : Bool) (same : Decides b (nameOf x ≡ name)) where
   name-read : getD (namesIn xs) u [] ≡ nameOf x
@@ -41,12 +42,12 @@ map-push : {X Y : Type 0} (f : X → Y) (xs : List X) (x : X) → map f (xs ++ x
 map-push f [] x = refl
 map-push f (y ∷ xs) x = ap (λ z. f y ∷ z) (map-push f xs x)
 
-fresh-unit : (x : FileUnit) (b : Body) → x .kind ≡ kindOf b → Fresh b (x .memory) → unitOf x ≡ freshUnit (kindOf b) (heldOf b)
+fresh-unit : (x : FileUnit) (b : Body) → x .kind ≡ kindOf b → Fresh b (x .memory) → unitOf x ≡ freshUnit (rulesOf (kindOf b)) (heldOf b)
 fresh-unit x b e f = let h = f .held in let p = f .places in rw (e, h, p)
 
 -- a record at the end of the table is a unit more
 pub extended : (xs ys : List FileUnit) (x : FileUnit) (name : Name) (b : Body) → ys ≡ xs ++ x ∷ [] → x .name ≡ name → x .kind ≡ kindOf b → Fresh b (x .memory)
-    → Extended xs (textOf name) (freshUnit (kindOf b) (heldOf b)) ys
+    → Extended xs (textOf name) (freshUnit (rulesOf (kindOf b)) (heldOf b)) ys
 extended xs ys x name b e n k f =
     record {
       units = ap unitsIn e ∙ map-push unitOf xs x ∙ ap (λ z. unitsIn xs ++ z ∷ []) (fresh-unit x b k f);

@@ -11,9 +11,8 @@ use Rattle.std.specs.declared.option.Option.{Option}
 use Rattle.std.specs.declared.option.Option.the-variants.{Some, None}
 use Rattle.std.specs.declared.result.Result.{Result}
 use Rattle.std.specs.declared.result.Result.the-variants.{Ok, Err}
-use Rattle.rig.specs.Units.{RigUnit, Held}
+use Rattle.rig.specs.Units.{RigUnit, freshUnit}
 use Rattle.kinds.specs.declared.design.Design.{Design}
-use Rattle.kinds.specs.declared.kind.Kind.{Kind}
 use Rattle.kinds.specs.declared.body.Body.{Body}
 use Rattle.kinds.specs.Contents.{rulesOf, kindOf, heldOf}
 use Rattle.kinds.specs.Designs.{misfit, kindAs, heldAs}
@@ -31,12 +30,9 @@ abbrev pub FoundAt : List (List ℕ) → List ℕ → Option ℕ → Type 0
 FoundAt ns n None = (k : ℕ) → k < length ns → getD ns k [] ≡ n → ⊥
 FoundAt ns n (Some u) = (u < length ns) × (getD ns u [] ≡ n) × ((k : ℕ) → k < u → getD ns k [] ≡ n → ⊥)
 
--- a unit in place with these contents, all places empty
-abbrev pub freshUnit : Kind → Held ℤ → RigUnit ℤ
-freshUnit k a = record { rules = rulesOf k; held = Some a; places = None ∷ None ∷ None ∷ None ∷ [] }
-
+-- a new unit of a design
 abbrev pub newUnit : Design → RigUnit ℤ
-newUnit d = freshUnit (kindAs d) (heldAs d)
+newUnit d = freshUnit (rulesOf (kindAs d)) (heldAs d)
 
 -- the table as it was, and with one unit more
 abbrev pub Unchanged : FileRig → FileRig → Type 0
@@ -48,7 +44,7 @@ pub record Extended (before : List FileUnit) (name : List ℕ) (x : RigUnit ℤ)
 
 -- a record pushed, or no memory for it
 abbrev pub Pushed : List FileUnit → Name → Body → Result (Unit {0}) AllocError → List FileUnit → Type 0
-Pushed before name b (Ok r) after = Extended before (textOf name) (freshUnit (kindOf b) (heldOf b)) after
+Pushed before name b (Ok r) after = Extended before (textOf name) (freshUnit (rulesOf (kindOf b)) (heldOf b)) after
 Pushed before name b (Err e) after = after ≡ before
 
 -- the causes, each with those before it absent

@@ -8,13 +8,13 @@ use lib.IntN.{ℤ, pos, negsuc, _+ℤ_, _*ℤ_}
 use Rattle.std.specs.Finite.{nth}
 use Rattle.std.specs.shelf.Lists.{All}
 use Rattle.std.specs.declared.option.Option.the-variants.{Some}
-use Rattle.rig.specs.Units.{Rules}
+use Rattle.rig.specs.Units.{Rules, item}
 use Rattle.rig.specs.Laws.{AgreeOn, ReadsMasked, Suits}
 use Rattle.kinds.specs.declared.kind.Kind.{Kind}
 use Rattle.kinds.specs.declared.kind.Kind.the-variants as kinds
 use Rattle.kinds.specs.declared.body.Body.{Body}
 use Rattle.kinds.specs.declared.body.Body.the-variants as bodies
-use Rattle.kinds.specs.Rules.{boundBy, toSignal, item, gain}
+use Rattle.kinds.specs.Rules.{boundBy, toSignal, gain}
 use Rattle.kinds.specs.Contents.{rulesOf, kindOf, heldOf}
 
 pub inputs-few : (k : Kind) → rulesOf k .inputs ≤ 8

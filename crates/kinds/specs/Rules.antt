@@ -1,11 +1,11 @@
 -- OUT, BOUND and NEXT of the three kinds.
 use mathlib.Core.List.{List, [], _∷_}
 use Prim.Native.Nat.{ℕ, zero, suc, min, _/_, _≤_}
-use lib.ListN.{getD, set}
+use lib.ListN.{set}
 use lib.IntN.{ℤ, pos, negsuc, natAbs, _+ℤ_, _-ℤ_, _*ℤ_}
 use lib.Signed.{_≤ℤ_}
 use Rattle.std.specs.Numbers.{saturated}
-use Rattle.rig.specs.Units.{Rules}
+use Rattle.rig.specs.Units.{Rules, item}
 
 -- how far a number lies above 0
 abbrev pub room : ℤ → ℕ
@@ -36,10 +36,6 @@ pub record LongestStep (x lo hi : ℤ) (m : ℕ) (u : ℤ) (b : ℕ) : Type 0 wh
 -- the nearest number of the signal range, −2,147,483,648 to 2,147,483,647
 abbrev pub toSignal : ℤ → ℤ
 toSignal z = saturated 31 z
-
--- a number of a list
-abbrev pub item : List ℤ → ℕ → ℤ
-item zs i = getD zs i (pos 0)
 
 -- state x, lo, hi, m; input u
 abbrev pub integrator : Rules ℤ

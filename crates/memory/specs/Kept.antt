@@ -1,6 +1,6 @@
 -- What save, restore and free answer and leave, and the unit that a memory makes.
 use mathlib.Core.Path.{_≡_}
-use mathlib.Core.List.{List, [], _∷_, map}
+use mathlib.Core.List.{List, map}
 use mathlib.Core.Bool.{cond}
 use Prim.Native.Nat.{ℕ}
 use lib.ListN.{getD, set}
@@ -10,14 +10,14 @@ use Rattle.std.specs.declared.option.Option.{Option}
 use Rattle.std.specs.declared.option.Option.the-variants.{Some, None}
 use Rattle.std.specs.declared.result.Result.{Result}
 use Rattle.rig.specs.declared.cause.Cause.{Cause}
-use Rattle.rig.specs.Units.{Rules, Held, RigUnit}
+use Rattle.rig.specs.Units.{Rules, Held, RigUnit, emptyPlaces}
 use Rattle.rig.specs.Calls.{saveAnswer, backAnswer}
 use Rattle.memory.specs.declared.store.Memory.{Memory}
 
 -- in place with these contents, all places empty
 pub record Fresh {X : Type 0} (a : X) (m : Memory X) : Type 0 where
   pub held : m .held ≡ Some a
-  pub places : m .places ≡ None ∷ None ∷ None ∷ None ∷ []
+  pub places : m .places ≡ emptyPlaces
 
 pub record Saved {X : Type 0} (p : ℕ) (before : Memory X) (r : Result (Unit {0}) Cause) (after : Memory X) : Type 0 where
   pub answer : r ≡ saveAnswer p (before .held) (before .places)

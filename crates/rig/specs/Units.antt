@@ -1,9 +1,9 @@
 -- What a unit is and holds, and what may become of it. A rig is a list of units, numbered from 0.
-use mathlib.Core.List.{List}
+use mathlib.Core.List.{List, [], _∷_}
 use mathlib.Core.Bool.{cond}
 use Prim.Native.Nat.{ℕ}
 use lib.ListN.{getD, set}
-use lib.IntN.{ℤ}
+use lib.IntN.{ℤ, pos}
 use lib.Dec.{leb}
 use Rattle.std.specs.declared.option.Option.{Option}
 use Rattle.std.specs.declared.option.Option.the-variants.{Some, None}
@@ -27,6 +27,17 @@ pub record RigUnit (S : Type 0) : Type 0 where
   pub rules : Rules S
   pub held : Option (Held S)
   pub places : List (Option (Held S))
+
+-- a number of a state
+abbrev pub item : List ℤ → ℕ → ℤ
+item zs i = getD zs i (pos 0)
+
+-- four empty places, and a unit in place with these contents and no more
+abbrev pub emptyPlaces : {X : Type 0} → List (Option X)
+emptyPlaces = None ∷ None ∷ None ∷ None ∷ []
+
+abbrev pub freshUnit : {S : Type 0} → Rules S → Held S → RigUnit S
+freshUnit k a = record { rules = k; held = Some a; places = emptyPlaces }
 
 -- what place p holds
 abbrev pub placeOf : {S : Type 0} → ℕ → RigUnit S → Option (Held S)
