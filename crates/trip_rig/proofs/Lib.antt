@@ -1,0 +1,4 @@
+pub mod Moving
+pub mod Players
+pub mod Pairs
+pub mod Soundness

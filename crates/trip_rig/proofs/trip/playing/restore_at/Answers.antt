@@ -1,0 +1,15 @@
+use Rattle.memory.proofs.Reading.{restored-unit}
+use Rattle.trip_rig.specs.Playing.{trip}
+use Rattle.trip_rig.specs.Trips.{heldAt}
+use native.Mathlib.Omega.{arith}
+use Rattle.rig.specs.Calls.{restore}
+use Rattle.trip_rig.proofs.Players.{called-none, called-player}
+use Rattle.trip_rig.proofs.trip.playing.restore_at.Needs as need
+
+pub returns-then-unit-count : need.returns-then-unit-count
+returns-then-unit-count c = called-none (restore (c .args .place)) (c .args .legs .now) (c .args .memory .now) (c .args .unit) (c .new .result) (c .new .ensures) (omega arith)
+
+pub returns : need.returns
+returns c =
+    called-player (restore (c .args .place)) (c .args .legs .now) (c .args .memory .now) (c .restore .last .self) (c .args .unit) (omega arith) (c .restore .result) (c .blame .result) (c .blame .ensures)
+    (restored-unit trip (heldAt (c .args .legs .now)) (c .args .place) (c .args .memory .now) (c .restore .last .self) (c .restore .result) (c .restore .ensures))

@@ -1,0 +1,3 @@
+pub mod Playing
+pub mod Trips
+pub mod Reading
