@@ -1,0 +1,4 @@
+pub mod Limiting
+pub mod Stepping
+pub mod Flagging
+pub mod Covering

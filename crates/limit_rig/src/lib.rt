@@ -1,0 +1,2 @@
+// A rig whose steps are held to a limit.
+pub mod limit;

@@ -1,0 +1,2 @@
+// Two rigs as one.
+pub mod pair;
