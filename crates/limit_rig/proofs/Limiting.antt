@@ -16,6 +16,7 @@ use Rattle.rig.specs.declared.cause.Cause.the-variants.{NoSuch}
 use Rattle.rig.specs.declared.cause.Target.{Target}
 use Rattle.rig.specs.declared.cause.RigFault.{RigFault}
 use Rattle.rig.specs.Units.{RigUnit}
+use Rattle.rig.specs.Laws.{Sound}
 use Rattle.rig.specs.Calls.{Call, Called, answerOf, answerIn, blamed, afterIn, unitAfter, put, get, save, restore, free, ports, mask}
 use Rattle.limit_rig.specs.Limits.{unitUnder, unitsUnder}
 
@@ -72,6 +73,24 @@ blamed-err : {T : Type 0} (u : ℕ) (p : Target) (r : Result T Cause) (x : RigFa
 blamed-err u p (Ok s) x e = let z : _≡_ {A = ℕ} 0 1 = cc in absurd (omega arith)
 blamed-err u p (Err y) x e = (y, refl)
 
+-- a unit that answers is there
+nth-inside : {X : Type 0} (us : List X) (u : ℕ) (x : X) → nth us u ≡ Some x → u < length us
+nth-inside [] u x e = let z : _≡_ {A = ℕ} 0 1 = cc in absurd (omega arith)
+nth-inside (y ∷ us) zero x e = omega arith
+nth-inside (y ∷ us) (suc u) x e = omega (arith, nth-inside us u x e)
+
+answer-inside : {S T : Type 0} (k : Call S T) (us : List (RigUnit S)) (u : ℕ) {t : T} → Ok t ≡ answerOf k us u → u < length us
+answer-inside {S} {T} k us u {t} e = by (nth us u) refl
+  where
+    by : (o : Option (RigUnit S)) → nth us u ≡ o → u < length us
+    by None q =
+        let b : _≡_ {A = Result T RigFault} (Ok t) (Err (record { cause = NoSuch; unit = u; target = k .target })) = e ∙ ap (λ z. blamed u (k .target) (answerIn k z)) q in
+        let z : _≡_ {A = ℕ} 0 1 = cc in absurd (omega arith)
+    by (Some x) q = nth-inside us u x q
+
+pub answer-few : {S T : Type 0} (k : Call S T) (us : List (RigUnit S)) (u : ℕ) {t : T} → Sound us → Ok t ≡ answerOf k us u → u < 16
+answer-few k us u s e = omega (arith, answer-inside k us u e, s .few)
+
 -- such a call of unit u, whose flag is f
 module _ {S T : Type 0} (k j : Call S T) (m : ℕ) (fs : List Bool) (us : List (RigUnit S)) (u : ℕ) (f g : Bool) (flag : getD fs u false ≡ f) (t : Through k j m f g) where
   at-unit : nth (unitsUnder m fs us) u ≡ mapped (unitUnder m f) (nth us u)
@@ -125,10 +144,11 @@ module _ {S T : Type 0} (k j : Call S T) (m : ℕ) (fs : List Bool) (us : List (
       let y = blamed-err u (j .target) (answerIn j (nth us u)) x (d .answer) in
       record { answer = lift-answer (d .answer); units = after-call (after-err (nth us u) (y .0) (y .1)) (ap (unitsUnder m fs) (d .units)) }
 
-  pub lift-ok : {v : T} {vs : List (RigUnit S)} {gs : List Bool} → gs ≡ set fs u g → u < length fs → Called j us u (Ok v) vs
+  pub lift-ok : {v : T} {vs : List (RigUnit S)} {gs : List Bool} → gs ≡ set fs u g → length fs ≡ 16 → Sound us → Called j us u (Ok v) vs
       → Called k (unitsUnder m fs us) u (Ok v) (unitsUnder m gs vs)
-  lift-ok {v} {vs} {gs} new h d =
+  lift-ok {v} {vs} {gs} new whole sound d =
       let e = blamed-ok u (j .target) (answerIn j (nth us u)) v (d .answer) in
+      let h : u < length fs = omega (arith, answer-few j us u sound (d .answer)) in
       record {
         answer = lift-answer (d .answer);
         units = after-call (after-ok (nth us u) v e h) (ap (λ z. unitsUnder m z vs) new ∙ ap (unitsUnder m (set fs u g)) (d .units));
@@ -155,18 +175,3 @@ ports-through m f = record { target = refl; answer = λ x. refl; effect = λ x t
 
 pub mask-through : {S : Type 0} (m port : ℕ) (f : Bool) → Through {S = S} (mask port) (mask port) m f f
 mask-through m port f = record { target = refl; answer = λ x. refl; effect = λ x t e. refl }
-
--- a unit that answers is there
-nth-inside : {X : Type 0} (us : List X) (u : ℕ) (x : X) → nth us u ≡ Some x → u < length us
-nth-inside [] u x e = let z : _≡_ {A = ℕ} 0 1 = cc in absurd (omega arith)
-nth-inside (y ∷ us) zero x e = omega arith
-nth-inside (y ∷ us) (suc u) x e = omega (arith, nth-inside us u x e)
-
-pub answer-inside : {S T : Type 0} (k : Call S T) (us : List (RigUnit S)) (u : ℕ) {t : T} → Ok t ≡ answerOf k us u → u < length us
-answer-inside {S} {T} k us u {t} e = by (nth us u) refl
-  where
-    by : (o : Option (RigUnit S)) → nth us u ≡ o → u < length us
-    by None q =
-        let b : _≡_ {A = Result T RigFault} (Ok t) (Err (record { cause = NoSuch; unit = u; target = k .target })) = e ∙ ap (λ z. blamed u (k .target) (answerIn k z)) q in
-        let z : _≡_ {A = ℕ} 0 1 = cc in absurd (omega arith)
-    by (Some x) q = nth-inside us u x q

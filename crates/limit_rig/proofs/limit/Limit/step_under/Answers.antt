@@ -1,9 +1,8 @@
 use mathlib.Core.Path.{refl, sym, ap, _∙_}
 use mathlib.Core.Bool.{true, false}
-use native.Mathlib.Omega.{arith}
 use Rattle.std.specs.declared.result.Result.the-variants.{Err}
 use Rattle.rig.specs.Calls.{step}
-use Rattle.limit_rig.proofs.Limiting.{lift-same, lift-ok, lift-err, answer-inside}
+use Rattle.limit_rig.proofs.Limiting.{lift-same, lift-ok, lift-err, answer-few}
 use Rattle.limit_rig.proofs.Stepping.{step-through, step-above}
 use Rattle.limit_rig.proofs.Flagging.{called-flagged, step-flagged}
 use Rattle.limit_rig.proofs.limit.Limit.step_under.Needs as need
@@ -19,12 +18,12 @@ returns-then-not-above-limit g c =
     (step-through (c .args .self .now .most) (c .args .h) (sym (c .above-limit .ensures) ∙ c .if-not-above-limit .taken)) refl (c .step .ensures)
 
 pub set-flag-requires : need.set-flag-requires
-set-flag-requires g c κs = omega (arith, answer-inside (step (c .args .self .now .most)) (g .R·Rig .model (c .args .self .now .below)) (c .args .unit) (c .in-Ok .ensures tt .answer), g .R·Rig·met .sound (c .args .self .now .below) .few)
+set-flag-requires g c κs = answer-few (step (c .args .self .now .most)) (g .R·Rig .model (c .args .self .now .below)) (c .args .unit) (g .R·Rig·met .sound (c .args .self .now .below)) (c .in-Ok .ensures tt .answer)
 
 pub returns-in-Ok : need.returns-in-Ok
 returns-in-Ok g c =
     lift-ok (step (c .args .h)) (step (c .args .self .now .most)) (c .args .self .now .most) (c .args .self .now .flags) (g .R·Rig .model (c .args .self .now .below)) (c .args .unit) false true (sym (c .flagged .ensures) ∙ c .if-flagged .left) (step-above (c .args .self .now .most) (c .args .h) (c .args .self .now .some) (sym (c .above-limit .ensures) ∙ c .if-not-above-limit .left))
-    (c .set-flag .ensures) (omega (arith, answer-inside (step (c .args .self .now .most)) (g .R·Rig .model (c .args .self .now .below)) (c .args .unit) (c .in-Ok .ensures tt .answer), g .R·Rig·met .sound (c .args .self .now .below) .few, c .args .self .now .whole)) (c .in-Ok .ensures tt)
+    (c .set-flag .ensures) (c .args .self .now .whole) (g .R·Rig·met .sound (c .args .self .now .below)) (c .in-Ok .ensures tt)
 
 pub returns-in-Err : need.returns-in-Err
 returns-in-Err g c = lift-err (step (c .args .h)) (step (c .args .self .now .most)) (c .args .self .now .most) (c .args .self .now .flags) (g .R·Rig .model (c .args .self .now .below)) (c .args .unit) false true (sym (c .flagged .ensures) ∙ c .if-flagged .left) (step-above (c .args .self .now .most) (c .args .h) (c .args .self .now .some) (sym (c .above-limit .ensures) ∙ c .if-not-above-limit .left)) (c .in-Err .ensures tt)
