@@ -15,7 +15,7 @@ use Rattle.rig.specs.Units.{RigUnit, freshUnit}
 use Rattle.kinds.specs.declared.design.Design.{Design}
 use Rattle.kinds.specs.declared.body.Body.{Body}
 use Rattle.kinds.specs.Contents.{rulesOf, kindOf, heldOf}
-use Rattle.kinds.specs.Designs.{misfit, kindAs, heldAs}
+use Rattle.kinds.specs.Designs.{designFault, kindAs, heldAs}
 use Rattle.names.specs.declared.name.Name.{Name}
 use Rattle.names.specs.Naming.{isName}
 use Rattle.names.specs.Names.{textOf}
@@ -59,9 +59,9 @@ Unused t name = Named t name × FoundAt (namesOf t) name None
 
 -- what adding a unit answers and leaves
 abbrev pub Added : FileRig → List ℕ → Design → Result ℕ AddFault → FileRig → Type 0
-Added before name d (Ok u) after = (u ≡ vec-len (before .units)) × Unused before name × (misfit d ≡ None) × Extended (vec-items (before .units)) name (newUnit d) (vec-items (after .units))
+Added before name d (Ok u) after = (u ≡ vec-len (before .units)) × Unused before name × (designFault d ≡ None) × Extended (vec-items (before .units)) name (newUnit d) (vec-items (after .units))
 Added before name d (Err TableFull) after = (16 ≤ vec-len (before .units)) × Unchanged before after
 Added before name d (Err BadName) after = Room before × (isName name ≡ false) × Unchanged before after
 Added before name d (Err NameUsed) after = Named before name × ((u : ℕ) × FoundAt (namesOf before) name (Some u)) × Unchanged before after
-Added before name d (Err (BadDesign e)) after = Unused before name × (misfit d ≡ Some e) × Unchanged before after
-Added before name d (Err NoMemory) after = Unused before name × (misfit d ≡ None) × Unchanged before after
+Added before name d (Err (BadDesign e)) after = Unused before name × (designFault d ≡ Some e) × Unchanged before after
+Added before name d (Err NoMemory) after = Unused before name × (designFault d ≡ None) × Unchanged before after

@@ -7,7 +7,7 @@ mod tests {
     use file_rig::table::refusal::AddFaultDebug;
     use file_rig::table::refusal::AddFaultPartialEq;
     use kinds::design::Design;
-    use kinds::design::Misfit;
+    use kinds::design::DesignFault;
     use rig::Rig;
     use rig::cause::RigFault;
     use rig::cause::RigFaultDebug;
@@ -152,7 +152,7 @@ mod tests {
         };
         check_eq(
             rig.add(b"g", left),
-            Err(AddFault::BadDesign(Misfit::FactorA)),
+            Err(AddFault::BadDesign(DesignFault::FactorA)),
         )?;
         let right = Design::Gain {
             a: -1000,
@@ -161,7 +161,7 @@ mod tests {
         };
         check_eq(
             rig.add(b"g", right),
-            Err(AddFault::BadDesign(Misfit::FactorB)),
+            Err(AddFault::BadDesign(DesignFault::FactorB)),
         )?;
         let both = Design::Integrator {
             x: 9,
@@ -171,7 +171,7 @@ mod tests {
         };
         check_eq(
             rig.add(b"i", both),
-            Err(AddFault::BadDesign(Misfit::StepLimit)),
+            Err(AddFault::BadDesign(DesignFault::StepLimit)),
         )?;
         let outside = Design::Integrator {
             x: 9,
@@ -181,7 +181,7 @@ mod tests {
         };
         check_eq(
             rig.add(b"i", outside),
-            Err(AddFault::BadDesign(Misfit::Outside)),
+            Err(AddFault::BadDesign(DesignFault::Outside)),
         )?;
         check_eq(rig.units(), 2)?;
         check_eq(rig.find(b"tank"), Some(1))?;

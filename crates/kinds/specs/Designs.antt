@@ -15,8 +15,8 @@ use Rattle.kinds.specs.declared.kind.Kind.{Kind}
 use Rattle.kinds.specs.declared.kind.Kind.the-variants as kinds
 use Rattle.kinds.specs.declared.design.Design.{Design}
 use Rattle.kinds.specs.declared.design.Design.the-variants.{Integrator, Gain, Constant}
-use Rattle.kinds.specs.declared.design.Misfit.{Misfit}
-use Rattle.kinds.specs.declared.design.Misfit.the-variants.{StepLimit, FactorA, FactorB, Outside}
+use Rattle.kinds.specs.declared.design.DesignFault.{DesignFault}
+use Rattle.kinds.specs.declared.design.DesignFault.the-variants.{StepLimit, FactorA, FactorB, Outside}
 use Rattle.kinds.specs.declared.body.Body.{Body}
 use Rattle.kinds.specs.Contents.{kindOf, heldOf}
 
@@ -25,10 +25,10 @@ abbrev pub isFactor : ℤ → Bool
 isFactor a = leZ (negsuc 999) a && leZ a (pos 1000)
 
 -- the first cause for which a design makes no unit: ranges from the left, then x outside lo to hi
-abbrev pub misfit : Design → Option Misfit
-misfit (Integrator x lo hi m) = cond (leb 1 m && leb m 1000000) (cond (leZ lo x && leZ x hi) None (Some Outside)) (Some StepLimit)
-misfit (Gain a b k) = cond (isFactor a) (cond (isFactor b) None (Some FactorB)) (Some FactorA)
-misfit (Constant v) = None
+abbrev pub designFault : Design → Option DesignFault
+designFault (Integrator x lo hi m) = cond (leb 1 m && leb m 1000000) (cond (leZ lo x && leZ x hi) None (Some Outside)) (Some StepLimit)
+designFault (Gain a b k) = cond (isFactor a) (cond (isFactor b) None (Some FactorB)) (Some FactorA)
+designFault (Constant v) = None
 
 abbrev pub kindAs : Design → Kind
 kindAs (Integrator x lo hi m) = kinds.Integrator
@@ -42,15 +42,15 @@ heldAs (Gain a b k) = record { state = a ∷ b ∷ k ∷ []; inputs = pos 0 ∷ 
 heldAs (Constant v) = record { state = v ∷ []; inputs = [] }
 
 -- contents made by a design, or the first cause against it
-abbrev pub MadeBy : {X : Type 0} → Design → (X → Held ℤ) → Result X Misfit → Type 0
-MadeBy d f (Ok x) = (misfit d ≡ None) × (f x ≡ heldAs d)
-MadeBy d f (Err e) = misfit d ≡ Some e
+abbrev pub MadeBy : {X : Type 0} → Design → (X → Held ℤ) → Result X DesignFault → Type 0
+MadeBy d f (Ok x) = (designFault d ≡ None) × (f x ≡ heldAs d)
+MadeBy d f (Err e) = designFault d ≡ Some e
 
-abbrev pub OfKind : Kind → Result Body Misfit → Type 0
+abbrev pub OfKind : Kind → Result Body DesignFault → Type 0
 OfKind k (Ok b) = kindOf b ≡ k
 OfKind k (Err e) = Unit {0}
 
 -- a body of the design's kind, with its contents
-pub record Made (d : Design) (r : Result Body Misfit) : Type 0 where
+pub record Made (d : Design) (r : Result Body DesignFault) : Type 0 where
   pub contents : MadeBy d heldOf r
   pub kind : OfKind (kindAs d) r

@@ -11,7 +11,7 @@ pub enum Design {
 
 /// Why a unit cannot be made by a design.
 #[derive(Clone, Copy, PartialEq, Eq, Debug)]
-pub enum Misfit {
+pub enum DesignFault {
     /// m is not 1 to 1,000,000.
     StepLimit,
     /// a is not −1,000 to 1,000.

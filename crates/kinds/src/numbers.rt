@@ -22,7 +22,7 @@ pub(crate) fn advance(x: i32, u: i32, h: u32) -> i64
 }
 
 /// The sum of two weighted signals and an addend.
-pub(crate) fn weigh(a: i32, b: i32, c: i32, u0: i32, u1: i32) -> i64
+pub(crate) fn weighted_sum(a: i32, b: i32, c: i32, u0: i32, u1: i32) -> i64
     requires a_above { ⌜ negsuc 999 ≤ℤ a ⌝ }
     requires a_below { ⌜ a ≤ℤ pos 1000 ⌝ }
     requires b_above { ⌜ negsuc 999 ≤ℤ b ⌝ }
@@ -43,7 +43,7 @@ pub(crate) fn between(lo: i32, x: i64, hi: i32) -> Option<i32>
 }
 
 /// The nearest number of the signal range.
-pub(crate) fn hold(x: i64) -> i32
+pub(crate) fn saturate(x: i64) -> i32
     ensures { λ r. ⌜ r ≡ toSignal x ⌝ }
 {
     if x > 2147483647 {

@@ -10,8 +10,8 @@ pub struct Pair<P: Rig, Q: Rig<Signal = P::Signal>> {
 }
 
 pub mod calls;
-mod home;
 mod joined;
+mod owner;
 mod second;
 
 impl<P: Rig, Q: Rig<Signal = P::Signal>> Pair<P, Q> {

@@ -9,24 +9,24 @@ use lib.ListN.{length, getD, drop}
 use lib.IntN.{ℤ, pos}
 use Rattle.std.proofs.shelf.Lists.{at-drop-more, at-drop-all}
 use Rattle.std.proofs.shelf.Tests.{eq-eqb}
-use Rattle.trip_rig.specs.declared.trip.Leg.{Leg}
+use Rattle.trip_rig.specs.declared.trip.Segment.{Segment}
 use Rattle.trip_rig.specs.Playing.{nextFuture}
 use Rattle.trip_rig.specs.Trips.{flat}
 
 -- where a later pair is there, it is the present one
-pub next-pair : (legs : List Leg) (n : ℕ) (l : Leg) (left h : ℕ) (v w : ℤ) → n < length legs → l ≡ getD legs n l → left ≡ h → w ≡ l .value
-    → pos (l .ticks) ∷ w ∷ flat (drop (n + 1) legs) ≡ nextFuture (pos left ∷ v ∷ flat (drop n legs)) h
-next-pair legs n l left h v w inside read same value =
-    ap (λ z. pos (l .ticks) ∷ z ∷ flat (drop (n + 1) legs)) value
-    ∙ sym (ap (λ b. cond b (pos (l .ticks) ∷ l .value ∷ flat (drop (n + 1) legs)) (pos (left - h) ∷ v ∷ pos (l .ticks) ∷ l .value ∷ flat (drop (n + 1) legs))) (eq-eqb left h same))
+pub next-pair : (segments : List Segment) (n : ℕ) (l : Segment) (left h : ℕ) (v w : ℤ) → n < length segments → l ≡ getD segments n l → left ≡ h → w ≡ l .value
+    → pos (l .ticks) ∷ w ∷ flat (drop (n + 1) segments) ≡ nextFuture (pos left ∷ v ∷ flat (drop n segments)) h
+next-pair segments n l left h v w inside read same value =
+    ap (λ z. pos (l .ticks) ∷ z ∷ flat (drop (n + 1) segments)) value
+    ∙ sym (ap (λ b. cond b (pos (l .ticks) ∷ l .value ∷ flat (drop (n + 1) segments)) (pos (left - h) ∷ v ∷ pos (l .ticks) ∷ l .value ∷ flat (drop (n + 1) segments))) (eq-eqb left h same))
     ∙ sym (ap (λ zs. nextFuture (pos left ∷ v ∷ zs) h) later) where
-      later : flat (drop n legs) ≡ pos (l .ticks) ∷ l .value ∷ flat (drop (n + 1) legs)
-      later = at-drop-more flat legs n l inside ∙ ap (λ (x : Leg). pos (x .ticks) ∷ x .value ∷ flat (drop (n + 1) legs)) (sym read)
+      later : flat (drop n segments) ≡ pos (l .ticks) ∷ l .value ∷ flat (drop (n + 1) segments)
+      later = at-drop-more flat segments n l inside ∙ ap (λ (x : Segment). pos (x .ticks) ∷ x .value ∷ flat (drop (n + 1) segments)) (sym read)
 
 -- where none is, no tick is left and the value stays
-pub last-pair : (legs : List Leg) (n left h : ℕ) (v w : ℤ) → length legs ≤ n → left ≡ h → w ≡ v
-    → pos 0 ∷ w ∷ flat (drop n legs) ≡ nextFuture (pos left ∷ v ∷ flat (drop n legs)) h
-last-pair legs n left h v w past same value =
-    let none : flat (drop n legs) ≡ [] = at-drop-all flat legs n past in
+pub last-pair : (segments : List Segment) (n left h : ℕ) (v w : ℤ) → length segments ≤ n → left ≡ h → w ≡ v
+    → pos 0 ∷ w ∷ flat (drop n segments) ≡ nextFuture (pos left ∷ v ∷ flat (drop n segments)) h
+last-pair segments n left h v w past same value =
+    let none : flat (drop n segments) ≡ [] = at-drop-all flat segments n past in
     let over : 0 ≡ left - h = omega arith in
     ap (λ zs. pos 0 ∷ w ∷ zs) none ∙ ap (λ z. pos 0 ∷ z ∷ []) value ∙ ap (λ m. pos m ∷ v ∷ []) over ∙ sym (ap (λ zs. nextFuture (pos left ∷ v ∷ zs) h) none)

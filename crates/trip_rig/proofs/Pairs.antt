@@ -7,11 +7,11 @@ use native.Mathlib.Omega.{arith}
 use lib.ListN.{length, getD, drop, length-drop}
 use lib.IntN.{ℤ, pos}
 use Rattle.std.proofs.shelf.Lists.{at-drop-more}
-use Rattle.trip_rig.specs.declared.trip.Leg.{Leg}
+use Rattle.trip_rig.specs.declared.trip.Segment.{Segment}
 use Rattle.trip_rig.specs.Reading.{areTicks, readPairs}
 use Rattle.trip_rig.specs.Trips.{flat}
 
-flat-push : (ls : List Leg) (l : Leg) → flat (ls ++ l ∷ []) ≡ flat ls ++ (pos (l .ticks) ∷ l .value ∷ [])
+flat-push : (ls : List Segment) (l : Segment) → flat (ls ++ l ∷ []) ≡ flat ls ++ (pos (l .ticks) ∷ l .value ∷ [])
 flat-push [] l = refl
 flat-push (x ∷ ls) l = ap (λ zs. pos (x .ticks) ∷ x .value ∷ zs) (flat-push ls l)
 
@@ -56,12 +56,12 @@ module _ (ns : List ℤ) (most k : ℕ) where
   no-ticks lt l e = one-pair lt l ∙ ap (λ b. cond b (ticksAt ∷ valueAt ∷ later) []) e
 
   -- one pair more, and the end of the loop
-  pub one-more : (ls ms : List Leg) (l : Leg) → k < most → 2 * k + 2 ≤ length ns → areTicks ticksAt ≡ true → pos (l .ticks) ≡ ticksAt → l .value ≡ valueAt
+  pub one-more : (ls ms : List Segment) (l : Segment) → k < most → 2 * k + 2 ≤ length ns → areTicks ticksAt ≡ true → pos (l .ticks) ≡ ticksAt → l .value ≡ valueAt
       → ms ≡ ls ++ l ∷ [] → flat ls ++ rest ≡ readPairs most ns → flat ms ++ later ≡ readPairs most ns
   one-more ls ms l lt long e t v d inv =
       ap (λ z. flat z ++ later) d ∙ ap (λ z. z ++ later) (flat-push ls l) ∙ append-assoc (flat ls) (pos (l .ticks) ∷ l .value ∷ []) later
       ∙ ap (λ z. flat ls ++ (z ∷ l .value ∷ later)) t ∙ ap (λ z. flat ls ++ (ticksAt ∷ z ∷ later)) v
       ∙ ap (λ z. flat ls ++ z) (sym (one-pair lt long ∙ ap (λ b. cond b (ticksAt ∷ valueAt ∷ later) []) e)) ∙ inv
 
-  pub ended : (ls : List Leg) → rest ≡ [] → flat ls ++ rest ≡ readPairs most ns → flat ls ≡ readPairs most ns
+  pub ended : (ls : List Segment) → rest ≡ [] → flat ls ++ rest ≡ readPairs most ns → flat ls ≡ readPairs most ns
   ended ls e inv = sym (append-nil (flat ls)) ∙ sym (ap (λ z. flat ls ++ z) e) ∙ inv

@@ -10,44 +10,44 @@ use Rattle.std.specs.declared.option.Option.{Option}
 use Rattle.rig.specs.Units.{Held, RigUnit}
 use Rattle.memory.specs.declared.store.Memory.{Memory}
 use Rattle.memory.specs.Kept.{unitFrom}
-use Rattle.trip_rig.specs.declared.trip.Leg.{Leg}
+use Rattle.trip_rig.specs.declared.trip.Segment.{Segment}
 use Rattle.trip_rig.specs.declared.trip.Position.{Position}
 use Rattle.trip_rig.specs.declared.trip.TripRig.{TripRig}
 use Rattle.trip_rig.specs.Playing.{trip, nextFuture}
 
 -- pairs as a list of numbers
-abbrev pub flat : List Leg → List ℤ
+abbrev pub flat : List Segment → List ℤ
 flat [] = []
 flat (l ∷ ls) = pos (l .ticks) ∷ l .value ∷ flat ls
 
 -- what is still to be played from a position
-abbrev pub future : List Leg → Position → List ℤ
-future legs p = pos (p .left) ∷ p .value ∷ flat (drop (p .later) legs)
+abbrev pub future : List Segment → Position → List ℤ
+future segments p = pos (p .left) ∷ p .value ∷ flat (drop (p .later) segments)
 
-abbrev pub heldAt : List Leg → Position → Held ℤ
-heldAt legs p = record { state = future legs p; inputs = [] }
+abbrev pub heldAt : List Segment → Position → Held ℤ
+heldAt segments p = record { state = future segments p; inputs = [] }
 
 -- the unit that plays these pairs
-abbrev pub player : List Leg → Memory Position → RigUnit ℤ
-player legs m = unitFrom trip (heldAt legs) m
+abbrev pub player : List Segment → Memory Position → RigUnit ℤ
+player segments m = unitFrom trip (heldAt segments) m
 
 -- without a pair there is no unit
-abbrev pub playersOf : List Leg → Memory Position → List (RigUnit ℤ)
+abbrev pub playersOf : List Segment → Memory Position → List (RigUnit ℤ)
 playersOf [] m = []
 playersOf (l ∷ ls) m = player (l ∷ ls) m ∷ []
 
 abbrev pub unitsOf : TripRig → List (RigUnit ℤ)
-unitsOf t = playersOf (vec-items (t .legs)) (t .memory)
+unitsOf t = playersOf (vec-items (t .segments)) (t .memory)
 
-abbrev pub countOf : List Leg → ℕ
+abbrev pub countOf : List Segment → ℕ
 countOf [] = 0
 countOf (l ∷ ls) = 1
 
 -- a position moved by h ticks, or none where fewer are left
-abbrev pub Moved : List Leg → Position → ℕ → Option Position → Type 0
-Moved legs p h r = BySome r (p .left < h) (λ q. (h ≤ p .left) × (future legs q ≡ nextFuture (future legs p) h))
+abbrev pub Moved : List Segment → Position → ℕ → Option Position → Type 0
+Moved segments p h r = BySome r (p .left < h) (λ q. (h ≤ p .left) × (future segments q ≡ nextFuture (future segments p) h))
 
 -- the position from which all pairs are still to be played; any where there is none
-abbrev pub StartsAt : List Leg → Position → Type 0
+abbrev pub StartsAt : List Segment → Position → Type 0
 StartsAt [] p = Unit {0}
 StartsAt (l ∷ ls) p = future (l ∷ ls) p ≡ flat (l ∷ ls)

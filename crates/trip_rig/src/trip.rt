@@ -3,7 +3,7 @@ use memory::store::Memory;
 
 /// One pair of a trip: a value, and for how many ticks it lasts.
 #[derive(Clone, Copy)]
-pub struct Leg {
+pub struct Segment {
     ticks: u32,
     value: i32,
     ghost few: { ticks ≤ 1000000 },
@@ -21,7 +21,7 @@ pub struct Position {
 /// A trip: its pairs, and where it stands. Without pairs it has no unit.
 #[derive(Drop)]
 pub struct TripRig {
-    legs: Vec<Leg>,
+    segments: Vec<Segment>,
     memory: Memory<Position>,
 }
 

@@ -56,7 +56,7 @@ impl FileRig {
         }
         let body = match Body::new(design) {
             Ok(body) => body,
-            Err(misfit) => return Err(AddFault::BadDesign(misfit)),
+            Err(fault) => return Err(AddFault::BadDesign(fault)),
         };
         match push_unit(&mut self.units, proper, body) {
             Ok(()) => Ok(unit),

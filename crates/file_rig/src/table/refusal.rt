@@ -1,6 +1,6 @@
-use kinds::design::Misfit;
-use kinds::design::MisfitDebug;
-use kinds::design::MisfitPartialEq;
+use kinds::design::DesignFault;
+use kinds::design::DesignFaultDebug;
+use kinds::design::DesignFaultPartialEq;
 
 /// Why a unit is not added to a file rig.
 #[derive(Clone, Copy, PartialEq, Eq, Debug)]
@@ -12,7 +12,7 @@ pub enum AddFault {
     /// A unit has this name already.
     NameUsed,
     /// A parameter is out of its range, or x lies outside lo to hi.
-    BadDesign(Misfit),
+    BadDesign(DesignFault),
     /// There is no memory for one more record.
     NoMemory,
 }

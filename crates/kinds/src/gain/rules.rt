@@ -5,21 +5,21 @@ ghost use Rattle.kinds.specs.Rules.{gain};
 ghost use Rattle.kinds.specs.Contents.{gainHeld};
 ghost use Rattle.kinds.specs.Designs.{MadeBy};
 use super::super::design::Design;
-use super::super::design::Misfit;
-use super::super::numbers::hold;
-use super::super::numbers::weigh;
+use super::super::design::DesignFault;
+use super::super::numbers::saturate;
+use super::super::numbers::weighted_sum;
 use super::Gain;
 
 impl Gain {
     /// With inputs 0, or the first cause against it.
-    pub(crate) fn new(a: i32, b: i32, c: i32) -> Result<Gain, Misfit>
+    pub(crate) fn new(a: i32, b: i32, c: i32) -> Result<Gain, DesignFault>
         ensures { λ r. ⌜ MadeBy (Design.Gain a b c) gainHeld r ⌝ }
     {
         if a < -1000 || a > 1000 {
-            return Err(Misfit::FactorA);
+            return Err(DesignFault::FactorA);
         }
         if b < -1000 || b > 1000 {
-            return Err(Misfit::FactorB);
+            return Err(DesignFault::FactorB);
         }
         Ok(Gain {
             a,
@@ -34,7 +34,7 @@ impl Gain {
     pub(crate) fn out(&self) -> i32
         ensures { λ r. ⌜ r ≡ gain .out 0 (gainHeld (now (self .entry)) .state) (gainHeld (now (self .entry)) .inputs) ⌝ }
     {
-        hold(weigh(self.a, self.b, self.c, self.u0, self.u1))
+        saturate(weighted_sum(self.a, self.b, self.c, self.u0, self.u1))
     }
 
     /// Input 0 or 1 set; no other port is one.

@@ -5,7 +5,7 @@ ghost use Rattle.kinds.specs.Rules.{integrator};
 ghost use Rattle.kinds.specs.Contents.{integratorHeld, Advanced};
 ghost use Rattle.kinds.specs.Designs.{MadeBy};
 use super::super::design::Design;
-use super::super::design::Misfit;
+use super::super::design::DesignFault;
 use super::super::numbers::advance;
 use super::super::numbers::between;
 use super::super::numbers::gap;
@@ -13,14 +13,14 @@ use super::Integrator;
 
 impl Integrator {
     /// At x with input 0, or the first cause against it.
-    pub(crate) fn new(x: i32, lo: i32, hi: i32, m: u32) -> Result<Integrator, Misfit>
+    pub(crate) fn new(x: i32, lo: i32, hi: i32, m: u32) -> Result<Integrator, DesignFault>
         ensures { λ r. ⌜ MadeBy (Design.Integrator x lo hi m) integratorHeld r ⌝ }
     {
         if m < 1 || m > 1_000_000 {
-            return Err(Misfit::StepLimit);
+            return Err(DesignFault::StepLimit);
         }
         if x < lo || x > hi {
-            return Err(Misfit::Outside);
+            return Err(DesignFault::Outside);
         }
         Ok(Integrator { x, lo, hi, m, u: 0 })
     }

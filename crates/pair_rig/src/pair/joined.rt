@@ -3,7 +3,7 @@ ghost use mathlib.Core.Path.{_≡_};
 ghost use lib.ListN.{length};
 ghost use Rattle.rig.specs.Calls.{Called, answerOf, ports, mask, status, put, get, step, save, restore, free};
 ghost use Rattle.pair_rig.specs.Joined.{joined};
-use super::home::Home;
+use super::owner::Owner;
 use super::second::free_second;
 use super::second::get_second;
 use super::second::mask_second;
@@ -36,10 +36,10 @@ pub(super) fn ports_pair<P: Rig, Q: Rig<Signal = P::Signal>>(
 ) -> Result<Ports, RigFault>
     ensures { λ r. ⌜ r ≡ answerOf ports (joined (P·Rig .model (now (first .entry))) (Q·Rig .model (now (second .entry)))) unit ⌝ }
 {
-    match Home::of(first.units(), unit) {
-        Home::First => first.ports(unit),
-        Home::Second(inner) => ports_second(second, inner, unit),
-        Home::Neither => Err(RigFault::new(Cause::NoSuch, unit, Target::Whole)),
+    match Owner::of(first.units(), unit) {
+        Owner::First => first.ports(unit),
+        Owner::Second(inner) => ports_second(second, inner, unit),
+        Owner::Neither => Err(RigFault::new(Cause::NoSuch, unit, Target::Whole)),
     }
 }
 
@@ -52,10 +52,10 @@ pub(super) fn mask_pair<P: Rig, Q: Rig<Signal = P::Signal>>(
 ) -> Result<u8, RigFault>
     ensures { λ r. ⌜ r ≡ answerOf (mask port) (joined (P·Rig .model (now (first .entry))) (Q·Rig .model (now (second .entry)))) unit ⌝ }
 {
-    match Home::of(first.units(), unit) {
-        Home::First => first.mask(unit, port),
-        Home::Second(inner) => mask_second(second, inner, unit, port),
-        Home::Neither => Err(RigFault::new(Cause::NoSuch, unit, Target::Port(port))),
+    match Owner::of(first.units(), unit) {
+        Owner::First => first.mask(unit, port),
+        Owner::Second(inner) => mask_second(second, inner, unit, port),
+        Owner::Neither => Err(RigFault::new(Cause::NoSuch, unit, Target::Port(port))),
     }
 }
 
@@ -67,10 +67,10 @@ pub(super) fn status_pair<P: Rig, Q: Rig<Signal = P::Signal>>(
 ) -> Result<Status, RigFault>
     ensures { λ r. ⌜ r ≡ answerOf status (joined (P·Rig .model (now (first .entry))) (Q·Rig .model (now (second .entry)))) unit ⌝ }
 {
-    match Home::of(first.units(), unit) {
-        Home::First => first.status(unit),
-        Home::Second(inner) => status_second(second, inner, unit),
-        Home::Neither => Err(RigFault::new(Cause::NoSuch, unit, Target::Whole)),
+    match Owner::of(first.units(), unit) {
+        Owner::First => first.status(unit),
+        Owner::Second(inner) => status_second(second, inner, unit),
+        Owner::Neither => Err(RigFault::new(Cause::NoSuch, unit, Target::Whole)),
     }
 }
 
@@ -84,10 +84,10 @@ pub(super) fn put_pair<P: Rig, Q: Rig<Signal = P::Signal>>(
 ) -> Result<(), RigFault>
     ensures { λ r. ⌜ Called (put port value) (joined (P·Rig .model (now (first .entry))) (Q·Rig .model (now (second .entry)))) unit r (joined (P·Rig .model (now (first .exit))) (Q·Rig .model (now (second .exit)))) ⌝ }
 {
-    match Home::of(first.units(), unit) {
-        Home::First => first.put(unit, port, value),
-        Home::Second(inner) => put_second(second, inner, unit, port, value),
-        Home::Neither => Err(RigFault::new(Cause::NoSuch, unit, Target::Port(port))),
+    match Owner::of(first.units(), unit) {
+        Owner::First => first.put(unit, port, value),
+        Owner::Second(inner) => put_second(second, inner, unit, port, value),
+        Owner::Neither => Err(RigFault::new(Cause::NoSuch, unit, Target::Port(port))),
     }
 }
 
@@ -100,10 +100,10 @@ pub(super) fn get_pair<P: Rig, Q: Rig<Signal = P::Signal>>(
 ) -> Result<P::Signal, RigFault>
     ensures { λ r. ⌜ r ≡ answerOf (get port) (joined (P·Rig .model (now (first .entry))) (Q·Rig .model (now (second .entry)))) unit ⌝ }
 {
-    match Home::of(first.units(), unit) {
-        Home::First => first.get(unit, port),
-        Home::Second(inner) => get_second(second, inner, unit, port),
-        Home::Neither => Err(RigFault::new(Cause::NoSuch, unit, Target::Port(port))),
+    match Owner::of(first.units(), unit) {
+        Owner::First => first.get(unit, port),
+        Owner::Second(inner) => get_second(second, inner, unit, port),
+        Owner::Neither => Err(RigFault::new(Cause::NoSuch, unit, Target::Port(port))),
     }
 }
 
@@ -116,10 +116,10 @@ pub(super) fn step_pair<P: Rig, Q: Rig<Signal = P::Signal>>(
 ) -> Result<u32, RigFault>
     ensures { λ r. ⌜ Called (step h) (joined (P·Rig .model (now (first .entry))) (Q·Rig .model (now (second .entry)))) unit r (joined (P·Rig .model (now (first .exit))) (Q·Rig .model (now (second .exit)))) ⌝ }
 {
-    match Home::of(first.units(), unit) {
-        Home::First => first.step(unit, h),
-        Home::Second(inner) => step_second(second, inner, unit, h),
-        Home::Neither => Err(RigFault::new(Cause::NoSuch, unit, Target::Whole)),
+    match Owner::of(first.units(), unit) {
+        Owner::First => first.step(unit, h),
+        Owner::Second(inner) => step_second(second, inner, unit, h),
+        Owner::Neither => Err(RigFault::new(Cause::NoSuch, unit, Target::Whole)),
     }
 }
 
@@ -132,10 +132,10 @@ pub(super) fn save_pair<P: Rig, Q: Rig<Signal = P::Signal>>(
 ) -> Result<(), RigFault>
     ensures { λ r. ⌜ Called (save place) (joined (P·Rig .model (now (first .entry))) (Q·Rig .model (now (second .entry)))) unit r (joined (P·Rig .model (now (first .exit))) (Q·Rig .model (now (second .exit)))) ⌝ }
 {
-    match Home::of(first.units(), unit) {
-        Home::First => first.save(unit, place),
-        Home::Second(inner) => save_second(second, inner, unit, place),
-        Home::Neither => Err(RigFault::new(Cause::NoSuch, unit, Target::Place(place))),
+    match Owner::of(first.units(), unit) {
+        Owner::First => first.save(unit, place),
+        Owner::Second(inner) => save_second(second, inner, unit, place),
+        Owner::Neither => Err(RigFault::new(Cause::NoSuch, unit, Target::Place(place))),
     }
 }
 
@@ -148,10 +148,10 @@ pub(super) fn restore_pair<P: Rig, Q: Rig<Signal = P::Signal>>(
 ) -> Result<(), RigFault>
     ensures { λ r. ⌜ Called (restore place) (joined (P·Rig .model (now (first .entry))) (Q·Rig .model (now (second .entry)))) unit r (joined (P·Rig .model (now (first .exit))) (Q·Rig .model (now (second .exit)))) ⌝ }
 {
-    match Home::of(first.units(), unit) {
-        Home::First => first.restore(unit, place),
-        Home::Second(inner) => restore_second(second, inner, unit, place),
-        Home::Neither => Err(RigFault::new(Cause::NoSuch, unit, Target::Place(place))),
+    match Owner::of(first.units(), unit) {
+        Owner::First => first.restore(unit, place),
+        Owner::Second(inner) => restore_second(second, inner, unit, place),
+        Owner::Neither => Err(RigFault::new(Cause::NoSuch, unit, Target::Place(place))),
     }
 }
 
@@ -164,9 +164,9 @@ pub(super) fn free_pair<P: Rig, Q: Rig<Signal = P::Signal>>(
 ) -> Result<(), RigFault>
     ensures { λ r. ⌜ Called (free place) (joined (P·Rig .model (now (first .entry))) (Q·Rig .model (now (second .entry)))) unit r (joined (P·Rig .model (now (first .exit))) (Q·Rig .model (now (second .exit)))) ⌝ }
 {
-    match Home::of(first.units(), unit) {
-        Home::First => first.free(unit, place),
-        Home::Second(inner) => free_second(second, inner, unit, place),
-        Home::Neither => Err(RigFault::new(Cause::NoSuch, unit, Target::Place(place))),
+    match Owner::of(first.units(), unit) {
+        Owner::First => first.free(unit, place),
+        Owner::Second(inner) => free_second(second, inner, unit, place),
+        Owner::Neither => Err(RigFault::new(Cause::NoSuch, unit, Target::Place(place))),
     }
 }

@@ -22,42 +22,42 @@ pub impl Rig for TripRig as TripRigRig {
     ghost model = { unitsOf };
 
     fn units(&self) -> usize {
-        count(&self.legs)
+        count(&self.segments)
     }
 
     fn ports(&self, unit: usize) -> Result<Ports, RigFault> {
-        ports_at(&self.legs, &self.memory, unit)
+        ports_at(&self.segments, &self.memory, unit)
     }
 
     fn mask(&self, unit: usize, port: usize) -> Result<u8, RigFault> {
-        mask_at(&self.legs, &self.memory, unit, port)
+        mask_at(&self.segments, &self.memory, unit, port)
     }
 
     fn status(&self, unit: usize) -> Result<Status, RigFault> {
-        status_at(&self.legs, &self.memory, unit)
+        status_at(&self.segments, &self.memory, unit)
     }
 
     fn put(&mut self, unit: usize, port: usize, value: i32) -> Result<(), RigFault> {
-        put_at(&self.legs, &mut self.memory, unit, port, value)
+        put_at(&self.segments, &mut self.memory, unit, port, value)
     }
 
     fn get(&self, unit: usize, port: usize) -> Result<i32, RigFault> {
-        get_at(&self.legs, &self.memory, unit, port)
+        get_at(&self.segments, &self.memory, unit, port)
     }
 
     fn step(&mut self, unit: usize, h: u32) -> Result<u32, RigFault> {
-        step_at(&self.legs, &mut self.memory, unit, h)
+        step_at(&self.segments, &mut self.memory, unit, h)
     }
 
     fn save(&mut self, unit: usize, place: usize) -> Result<(), RigFault> {
-        save_at(&self.legs, &mut self.memory, unit, place)
+        save_at(&self.segments, &mut self.memory, unit, place)
     }
 
     fn restore(&mut self, unit: usize, place: usize) -> Result<(), RigFault> {
-        restore_at(&self.legs, &mut self.memory, unit, place)
+        restore_at(&self.segments, &mut self.memory, unit, place)
     }
 
     fn free(&mut self, unit: usize, place: usize) -> Result<(), RigFault> {
-        free_at(&self.legs, &mut self.memory, unit, place)
+        free_at(&self.segments, &mut self.memory, unit, place)
     }
 }

@@ -2,12 +2,12 @@
 ghost use mathlib.Core.Path.{_≡_};
 ghost use Prim.Native.Nat.{ℕ, _≤_};
 ghost use Rattle.trip_rig.specs.Trips.{flat, future, Moved};
-use super::Leg;
 use super::Position;
+use super::Segment;
 
 /// h ticks further, or none where fewer are left in the pair. Where none is left the next pair is at once the present one.
-pub(super) fn moved(legs: &[Leg], position: Position, h: u32) -> Option<Position>
-    ensures { λ r. ⌜ Moved (now (legs .entry)) position h r ⌝ }
+pub(super) fn moved(segments: &[Segment], position: Position, h: u32) -> Option<Position>
+    ensures { λ r. ⌜ Moved (now (segments .entry)) position h r ⌝ }
 {
     if h > position.left {
         return None;
@@ -19,10 +19,10 @@ pub(super) fn moved(legs: &[Leg], position: Position, h: u32) -> Option<Position
             later: position.later,
         });
     }
-    match legs.get(position.later) {
-        Some(leg) => Some(Position {
-            left: leg.ticks,
-            value: leg.value,
+    match segments.get(position.later) {
+        Some(segment) => Some(Position {
+            left: segment.ticks,
+            value: segment.value,
             later: position.later + 1,
         }),
         None => Some(Position {

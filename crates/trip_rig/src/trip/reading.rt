@@ -10,8 +10,8 @@ ghost use Rattle.std.specs.Vec.{made};
 ghost use Rattle.memory.specs.Kept.{Fresh};
 ghost use Rattle.trip_rig.specs.Reading.{areTicks, readPairs, newTrip};
 ghost use Rattle.trip_rig.specs.Trips.{flat, unitsOf, StartsAt};
-use super::Leg;
 use super::Position;
+use super::Segment;
 use super::TripRig;
 use memory::store::Memory;
 use std::alloc::AllocError;
@@ -21,41 +21,41 @@ use std::alloc::Global;
 const MOST_PAIRS: usize = 4096;
 
 /// A pair, unless its ticks are not 1 to 1,000,000.
-fn leg(ticks: i32, value: i32) -> Option<Leg>
+fn segment(ticks: i32, value: i32) -> Option<Segment>
     ensures { λ r. ⌜ BySome r (areTicks ticks ≡ false) (λ l. (areTicks ticks ≡ true) × (pos (l .ticks) ≡ ticks) × (l .value ≡ value)) ⌝ }
 {
     if ticks < 1 || ticks > 1_000_000 {
         return None;
     }
-    Some(Leg {
+    Some(Segment {
         ticks: ticks as u32,
         value,
     })
 }
 
 /// The pairs of a list, at most so many, up to the first that is none.
-fn read(heap: Global, numbers: &[i32], most: usize) -> Result<Vec<Leg>, AllocError>
+fn read(heap: Global, numbers: &[i32], most: usize) -> Result<Vec<Segment>, AllocError>
     requires { ⌜ most ≤ 4096 ⌝ }
     ensures { λ r. ⌜ made r (λ v. flat (vec-items v) ≡ readPairs most (now (numbers .entry))) ⌝ }
 {
-    let mut legs = Vec::new(heap);
+    let mut segments = Vec::new(heap);
     for k in 0..most {
         if numbers.len() < 2 * k + 2 {
             break;
         }
-        let Some(leg) = leg(numbers[2 * k], numbers[2 * k + 1]) else {
+        let Some(segment) = segment(numbers[2 * k], numbers[2 * k + 1]) else {
             break;
         };
-        legs.push(leg)?;
+        segments.push(segment)?;
     }
-    Ok(legs)
+    Ok(segments)
 }
 
 /// Where a trip of these pairs starts: at the first.
-fn start(legs: &[Leg]) -> Position
-    ensures { λ r. ⌜ StartsAt (now (legs .entry)) r ⌝ }
+fn start(segments: &[Segment]) -> Position
+    ensures { λ r. ⌜ StartsAt (now (segments .entry)) r ⌝ }
 {
-    match legs {
+    match segments {
         [first, ..] => Position {
             left: first.ticks,
             value: first.value,
@@ -74,8 +74,8 @@ impl TripRig {
     pub fn new(heap: Global, numbers: &[i32]) -> Result<TripRig, AllocError>
         ensures { λ r. ⌜ made r (λ t. unitsOf t ≡ newTrip (readPairs 4096 (now (numbers .entry)))) ⌝ }
     {
-        let legs = read(heap, numbers, MOST_PAIRS)?;
-        let memory = Memory::new(start(&legs));
-        Ok(TripRig { legs, memory })
+        let segments = read(heap, numbers, MOST_PAIRS)?;
+        let memory = Memory::new(start(&segments));
+        Ok(TripRig { segments, memory })
     }
 }

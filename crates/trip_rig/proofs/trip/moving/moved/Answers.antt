@@ -9,11 +9,11 @@ use Rattle.trip_rig.proofs.trip.moving.moved.Needs as need
 
 pub returns-in-Some : need.returns-in-Some
 returns-in-Some c =
-    let f : SFits w32 (c .in-Some .leg .now .value) = search needs in
+    let f : SFits w32 (c .in-Some .segment .now .value) = search needs in
     let same : c .args .position .left ≡ c .args .h = omega arith in (
       omega arith,
-      next-pair (c .args .legs .now) (c .args .position .later) (c .in-Some .leg .now) (c .args .position .left) (c .args .h) (c .args .position .value) _
-          (c .in-Some .ensures tt .finds .3 .0) (c .in-Some .ensures tt .finds .1) same (toZ-ofZ w32 (c .in-Some .leg .now .value) f),
+      next-pair (c .args .segments .now) (c .args .position .later) (c .in-Some .segment .now) (c .args .position .left) (c .args .h) (c .args .position .value) _
+          (c .in-Some .ensures tt .finds .3 .0) (c .in-Some .ensures tt .finds .1) same (toZ-ofZ w32 (c .in-Some .segment .now .value) f),
     )
 
 pub returns-in-None : need.returns-in-None
@@ -21,6 +21,6 @@ returns-in-None c =
     let f : SFits w32 (c .args .position .value) = search needs in
     let same : c .args .position .left ≡ c .args .h = omega arith in (
       omega arith,
-      last-pair (c .args .legs .now) (c .args .position .later) (c .args .position .left) (c .args .h) (c .args .position .value) _ (c .in-None .ensures tt .finds .3) same
+      last-pair (c .args .segments .now) (c .args .position .later) (c .args .position .left) (c .args .h) (c .args .position .value) _ (c .in-None .ensures tt .finds .3) same
           (toZ-ofZ w32 (c .args .position .value) f),
     )

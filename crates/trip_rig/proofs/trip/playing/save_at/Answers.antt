@@ -7,9 +7,9 @@ use Rattle.trip_rig.proofs.Players.{called-none, called-player}
 use Rattle.trip_rig.proofs.trip.playing.save_at.Needs as need
 
 pub returns-then-unit-count : need.returns-then-unit-count
-returns-then-unit-count c = called-none (save (c .args .place)) (c .args .legs .now) (c .args .memory .now) (c .args .unit) (c .new .result) (c .new .ensures) (omega arith)
+returns-then-unit-count c = called-none (save (c .args .place)) (c .args .segments .now) (c .args .memory .now) (c .args .unit) (c .new .result) (c .new .ensures) (omega arith)
 
 pub returns : need.returns
 returns c =
-    called-player (save (c .args .place)) (c .args .legs .now) (c .args .memory .now) (c .save .last .self) (c .args .unit) (omega arith) (c .save .result) (c .blame .result) (c .blame .ensures)
-    (saved-unit trip (heldAt (c .args .legs .now)) (c .args .place) (c .args .memory .now) (c .save .last .self) (c .save .result) (c .save .ensures))
+    called-player (save (c .args .place)) (c .args .segments .now) (c .args .memory .now) (c .save .last .self) (c .args .unit) (omega arith) (c .save .result) (c .blame .result) (c .blame .ensures)
+    (saved-unit trip (heldAt (c .args .segments .now)) (c .args .place) (c .args .memory .now) (c .save .last .self) (c .save .result) (c .save .ensures))

@@ -9,9 +9,9 @@ use Rattle.trip_rig.proofs.Players.{told-none, told-player}
 use Rattle.trip_rig.proofs.trip.playing.status_at.Needs as need
 
 pub returns-then-unit-count : need.returns-then-unit-count
-returns-then-unit-count c = told-none status (c .args .legs .now) (c .args .memory .now) (c .args .unit) (c .new .result) (c .new .ensures) (omega arith)
+returns-then-unit-count c = told-none status (c .args .segments .now) (c .args .memory .now) (c .args .unit) (c .new .result) (c .new .ensures) (omega arith)
 
 pub returns : need.returns
 returns c =
-    told-player status (c .args .legs .now) (c .args .memory .now) (c .args .unit) (omega arith) (Ok (c .status .result)) (Ok (c .status .result)) refl
-    (ap (λ z. Ok z) (c .status .ensures ∙ sym (status-unit trip (heldAt (c .args .legs .now)) (c .args .memory .now .held) (c .args .memory .now .places))))
+    told-player status (c .args .segments .now) (c .args .memory .now) (c .args .unit) (omega arith) (Ok (c .status .result)) (Ok (c .status .result)) refl
+    (ap (λ z. Ok z) (c .status .ensures ∙ sym (status-unit trip (heldAt (c .args .segments .now)) (c .args .memory .now .held) (c .args .memory .now .places))))

@@ -25,17 +25,17 @@ loop-k-again c =
     let v : SFits w32 (getD (c .args .numbers .now) (2 * c .loop-k .k + 1) (pos 0)) = search needs in
     let p = toZ-ofZ w32 (getD (c .args .numbers .now) (2 * c .loop-k .k) (pos 0)) t in
     let q = toZ-ofZ w32 (getD (c .args .numbers .now) (2 * c .loop-k .k + 1) (pos 0)) v in
-    one-more (c .args .numbers .now) (c .args .most) (c .loop-k .k) (vec-items (c .loop-k .legs)) (vec-items (c .push .last .self)) (c .in-Some .leg) (c .loop-k-test .taken) (omega arith)
+    one-more (c .args .numbers .now) (c .args .most) (c .loop-k .k) (vec-items (c .loop-k .segments)) (vec-items (c .push .last .self)) (c .in-Some .segment) (c .loop-k-test .taken) (omega arith)
     (sym (ap areTicks p) ∙ e .0) (e .1 ∙ p) (e .2 ∙ q) (c .in-Continue-push .ensures tt .items) (c .loop-k .inv)
 
 pub returns : need.returns
 returns c =
     elim (c .loop-k-test .came) [
-      | else-loop-k-test w ↦ ended (c .args .numbers .now) (c .args .most) (c .loop-k .k) (vec-items (c .loop-k .legs)) (all-read (c .args .numbers .now) (c .args .most) (c .loop-k .k) (w .loop-k-test .left)) (c .loop-k .inv)
-      | then-loop-k-test·then-numbers-k w ↦ ended (c .args .numbers .now) (c .args .most) (c .loop-k .k) (vec-items (c .loop-k .legs)) (no-pair (c .args .numbers .now) (c .args .most) (c .loop-k .k) (omega (arith, w .if-numbers-k .taken))) (c .loop-k .inv)
+      | else-loop-k-test w ↦ ended (c .args .numbers .now) (c .args .most) (c .loop-k .k) (vec-items (c .loop-k .segments)) (all-read (c .args .numbers .now) (c .args .most) (c .loop-k .k) (w .loop-k-test .left)) (c .loop-k .inv)
+      | then-loop-k-test·then-numbers-k w ↦ ended (c .args .numbers .now) (c .args .most) (c .loop-k .k) (vec-items (c .loop-k .segments)) (no-pair (c .args .numbers .now) (c .args .most) (c .loop-k .k) (omega (arith, w .if-numbers-k .taken))) (c .loop-k .inv)
       | then-loop-k-test·else-numbers-k·in-rest w ↦
           (let t : SFits w32 (getD (c .args .numbers .now) (2 * c .loop-k .k) (pos 0)) = search needs in
           let p = toZ-ofZ w32 (getD (c .args .numbers .now) (2 * c .loop-k .k) (pos 0)) t in
-          ended (c .args .numbers .now) (c .args .most) (c .loop-k .k) (vec-items (c .loop-k .legs))
+          ended (c .args .numbers .now) (c .args .most) (c .loop-k .k) (vec-items (c .loop-k .segments))
           (no-ticks (c .args .numbers .now) (c .args .most) (c .loop-k .k) (w .loop-k-test .taken) (omega (arith, w .if-numbers-k .left)) (sym (ap areTicks p) ∙ w .in-rest .ensures tt)) (c .loop-k .inv))
     ]

@@ -8,4 +8,4 @@ use Rattle.trip_rig.specs.Trips.{flat}
 use Rattle.trip_rig.proofs.trip.reading.read.Given as given
 
 abbrev pub Inv-loop-k : given.InvT-loop-k
-Inv-loop-k l = flat (vec-items (l .legs)) ++ readPairs (l .most - l .k) (drop (2 * l .k) (l .numbers)) ≡ readPairs (l .most) (l .numbers)
+Inv-loop-k l = flat (vec-items (l .segments)) ++ readPairs (l .most - l .k) (drop (2 * l .k) (l .numbers)) ≡ readPairs (l .most) (l .numbers)

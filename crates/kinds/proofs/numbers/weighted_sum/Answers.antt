@@ -1,5 +1,5 @@
 use Rattle.kinds.proofs.Exact.{factor-abs, both-terms, weighed}
-use Rattle.kinds.proofs.numbers.weigh.Needs as need
+use Rattle.kinds.proofs.numbers.weighted_sum.Needs as need
 
 pub add-result : need.add-result
 add-result c =
