@@ -1,4 +1,6 @@
 // Checks a units file and a wires file, and prints what they say or why one of them is refused.
+#![tactic(auto)]
+
 use anyhow::anyhow;
 use file_rig::table::FileRig;
 use load::fault::LoadFault;

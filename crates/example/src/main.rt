@@ -1,5 +1,7 @@
 // Fills a tank from an inflow that changes over time, both under a limit on every step.
 // Eight ticks are proposed at each turn. Where a unit answers fewer, both are put back and that many are tried.
+#![tactic(auto)]
+
 use anyhow::anyhow;
 use file_rig::table::FileRig;
 use kinds::design::Design;

@@ -1,4 +1,6 @@
 // Worked cases of the rules, proved of the definitions that the contracts of the code cite.
+#![tactic(auto)]
+
 ghost use Rattle.std.specs.Prelude.{◌≡◌};
 ghost use Rattle.facts.specs.Worked.{WorkedCases};
 

@@ -1,4 +1,6 @@
 // A file rig run on examples: what it answers, what it refuses, and in which order.
+#![tactic(auto)]
+
 #[cfg(test)]
 mod tests {
     use file_rig::table::FileRig;

@@ -1,4 +1,6 @@
 // The three kinds of unit that a units file names: integrator, gain and constant, with their rules.
+#![tactic(auto)]
+
 pub mod body;
 pub mod constant;
 pub mod design;

@@ -1,4 +1,6 @@
 // Trips, pairs and limits run on examples, nested too.
+#![tactic(auto)]
+
 #[cfg(test)]
 mod tests {
     use file_rig::table::FileRig;

@@ -1,4 +1,6 @@
 // Units and wires files from tables: what the load of each answers, and what it leaves in the rig or the wiring.
+#![tactic(auto)]
+
 #[cfg(test)]
 mod bytes;
 #[cfg(test)]

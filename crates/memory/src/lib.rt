@@ -1,4 +1,6 @@
 // What a unit holds and its four places, for every rig that keeps units of its own.
+#![tactic(auto)]
+
 ghost use Rattle.std.specs.Prelude.{◌≡◌, ℕ, ◌≤◌, Some};
 ghost use Rattle.memory.specs.Kept.{Fresh, Saved, Restored, Freed};
 ghost use Rattle.rig.specs.Calls.{status_of};

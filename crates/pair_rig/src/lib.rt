@@ -1,2 +1,4 @@
 // Two rigs as one.
+#![tactic(auto)]
+
 pub mod pair;

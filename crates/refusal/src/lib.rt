@@ -1,4 +1,6 @@
 // A refusal by its numbers, the same for every layer of the project.
+#![tactic(auto)]
+
 ghost use Rattle.std.specs.Prelude.{◌∷◌, ◌++◌, Some, decimal};
 
 use std::fmt;

@@ -1,4 +1,6 @@
 // What is printed of units, of wires and of files that are refused, on examples.
+#![tactic(auto)]
+
 #[cfg(test)]
 mod tests {
     use file_rig::table::FileRig;

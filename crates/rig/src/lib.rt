@@ -1,4 +1,6 @@
 // The one interface behind which every rig stands: its calls, what they refuse, and what each of them means.
+#![tactic(auto)]
+
 ghost use Rattle.std.specs.Prelude.{◌≡◌, ℕ, ◌≤◌, List, length};
 ghost use Rattle.rig.specs.Units.{RigUnit};
 ghost use Rattle.rig.specs.Laws.{Sound};
