@@ -12,6 +12,7 @@ use report::refused::{FileKind, RefusedFile};
 use report::unit::UnitText;
 use report::wire::WireText;
 use rig::Rig;
+use std::process::ExitCode;
 use std::{env, fs, io};
 use wiring::port::Port;
 use wiring::table::Wiring;
@@ -171,10 +172,13 @@ fn run(rt: &HostRuntime) -> Result<(), Stop> {
     }
 }
 
-fn main(rt: HostRuntime) -> Result<(), Stop> {
-    let answer = run(&rt);
-    if let Err(Stop::Failed(error)) = &answer {
-        let _ = eprintln!(rt; "cosim: {error}");
+fn main(rt: HostRuntime) -> ExitCode {
+    match run(&rt) {
+        Ok(()) => ExitCode::SUCCESS,
+        Err(Stop::Told) => ExitCode::FAILURE,
+        Err(Stop::Failed(error)) => {
+            let _ = eprintln!(rt; "cosim: {error}");
+            ExitCode::FAILURE
+        }
     }
-    answer
 }

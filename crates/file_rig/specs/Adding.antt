@@ -11,8 +11,8 @@ use Rattle.names.specs.Naming.{is_name}
 use Rattle.names.specs.Names.{text_of}
 use Rattle.file_rig.specs.declared.unit.FileUnit.{FileUnit}
 use Rattle.file_rig.specs.declared.table.FileRig.{FileRig}
-use Rattle.file_rig.specs.declared.table.refusal.AddFault.{AddFault}
-use Rattle.file_rig.specs.declared.table.refusal.AddFault.TheVariants.{TableFull, BadName, NameUsed, BadDesign, NoMemory}
+use Rattle.file_rig.specs.declared.table.fault.AddFault.{AddFault}
+use Rattle.file_rig.specs.declared.table.fault.AddFault.TheVariants.{TableFull, BadName, NameUsed, BadDesign, NoMemory}
 use Rattle.file_rig.specs.Table.{units_in, names_in, names_of}
 
 -- the lowest unit with this name, if there is one

@@ -12,5 +12,5 @@ pub struct FileRig {
 pub mod adding;
 pub mod calls;
 mod lending;
-pub mod refusal;
+pub mod fault;
 pub mod words;

@@ -4,7 +4,7 @@
 #[cfg(test)]
 mod tests {
     use file_rig::table::FileRig;
-    use file_rig::table::refusal::AddFault;
+    use file_rig::table::fault::AddFault;
     use kinds::design::{Design, DesignFault};
     use rig::Rig;
     use rig::cause::RigFault;

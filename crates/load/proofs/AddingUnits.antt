@@ -3,8 +3,8 @@ use Rattle.std.proofs.Common.{◌≡◌, ℕ, ◌+◌, ◌<◌, ◌≤◌, true,
 use Rattle.std.proofs.lemmas.List.{length-map, map_push}
 use Rattle.kinds.specs.declared.design.Design.{Design}
 use Rattle.file_rig.specs.declared.table.FileRig.{FileRig}
-use Rattle.file_rig.specs.declared.table.refusal.AddFault.{AddFault}
-use Rattle.file_rig.specs.declared.table.refusal.AddFault.TheVariants.{TableFull, BadName, NameUsed, BadDesign, NoMemory}
+use Rattle.file_rig.specs.declared.table.fault.AddFault.{AddFault}
+use Rattle.file_rig.specs.declared.table.fault.AddFault.TheVariants.{TableFull, BadName, NameUsed, BadDesign, NoMemory}
 use Rattle.file_rig.specs.Table.{name_of, names_of}
 use Rattle.file_rig.specs.Adding.{Added, new_unit}
 use Rattle.lines.specs.declared.fault.FileFault.{FileFault}

@@ -7,8 +7,8 @@ use Rattle.file_rig.specs.declared.table.FileRig.{FileRig}
 use Rattle.file_rig.specs.Table.{name_of, names_of}
 use Rattle.wiring.specs.declared.port.Port.{Port}
 use Rattle.wiring.specs.declared.table.Wiring.{Wiring}
-use Rattle.wiring.specs.declared.refusal.WireFault.{WireFault}
-use Rattle.wiring.specs.declared.refusal.WireFault.TheVariants.{OutOfRange}
+use Rattle.wiring.specs.declared.fault.WireFault.{WireFault}
+use Rattle.wiring.specs.declared.fault.WireFault.TheVariants.{OutOfRange}
 use Rattle.wiring.specs.Wires.{source_of, InRange, OneMore, Added}
 use Rattle.lines.specs.declared.fault.LineFault.{LineFault}
 use Rattle.lines.specs.declared.fault.LineFault.TheVariants.{WiredTwice}

@@ -9,7 +9,7 @@ ghost use Rattle.load.specs.Filling.{UnitsFilled, LineAdded};
 
 use super::fault::LoadFault;
 use file_rig::table::FileRig;
-use file_rig::table::refusal::AddFault;
+use file_rig::table::fault::AddFault;
 use files::cursor::Cursor;
 use lines::unit::UnitLine;
 use std::alloc::AllocError;

@@ -12,7 +12,7 @@ use files::cursor::Cursor;
 use lines::fault::{FileFault, LineFault};
 use lines::wire::WireLine;
 use wiring::port::Port;
-use wiring::refusal::WireFault;
+use wiring::fault::WireFault;
 use wiring::table::Wiring;
 
 /// A port by the name of its unit, which is known.

@@ -1,6 +1,6 @@
 -- Refusals of a wire by their numbers. They are of layer 2; a is the unit of the wire's input, b its port.
-use Rattle.wiring.specs.declared.refusal.WireFault.{WireFault}
-use Rattle.wiring.specs.declared.refusal.WireFault.TheVariants.{OutOfRange, WiredTwice}
+use Rattle.wiring.specs.declared.fault.WireFault.{WireFault}
+use Rattle.wiring.specs.declared.fault.WireFault.TheVariants.{OutOfRange, WiredTwice}
 use Rattle.refusal.specs.declared.Code.{Code}
 
 -- the numbers of a refusal

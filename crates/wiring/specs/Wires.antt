@@ -1,8 +1,8 @@
 -- The wires of a wiring, and what adding one does.
 use Rattle.std.specs.Prelude.{◌≡◌, ℕ, ◌≤◌, [], Some, None, Ok, Err, Option, Result, ◌≢◌, slice_index_or}
 use Rattle.wiring.specs.declared.port.Port.{Port}
-use Rattle.wiring.specs.declared.refusal.WireFault.{WireFault}
-use Rattle.wiring.specs.declared.refusal.WireFault.TheVariants.{OutOfRange, WiredTwice}
+use Rattle.wiring.specs.declared.fault.WireFault.{WireFault}
+use Rattle.wiring.specs.declared.fault.WireFault.TheVariants.{OutOfRange, WiredTwice}
 use Rattle.wiring.specs.declared.table.Wiring.{Wiring}
 
 -- the output that supplies input i of unit u, if any

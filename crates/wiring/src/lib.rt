@@ -2,6 +2,6 @@
 #![tactic(auto)]
 
 pub mod port;
-pub mod refusal;
+pub mod fault;
 pub mod table;
 pub mod words;

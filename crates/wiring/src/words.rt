@@ -1,6 +1,6 @@
 // Refusals of a wire in words, for those who print them.
 use super::port::Port;
-use super::refusal::WireFault;
+use super::fault::WireFault;
 use std::error::Error;
 use std::fmt;
 

@@ -6,7 +6,7 @@ ghost use Rattle.file_rig.specs.Describing.{Described};
 
 use super::FileRig;
 use super::lending::{count, design_at, find_in, name_at, push_unit};
-use super::refusal::AddFault;
+use super::fault::AddFault;
 use kinds::body::Body;
 use kinds::design::Design;
 use names::name::Name;

@@ -1,5 +1,5 @@
 // Why a unit was not added, in words, for those who print it.
-use super::refusal::AddFault;
+use super::fault::AddFault;
 use kinds::design::DesignFault;
 use std::error::Error;
 use std::fmt;

@@ -3,7 +3,7 @@ ghost use Rattle.wiring.specs.Wires.{source_of, InRange, OneMore, Added};
 
 use super::Wiring;
 use crate::port::Port;
-use crate::refusal::WireFault;
+use crate::fault::WireFault;
 
 /// Whether both ends of a wire are within 16 units of 8 ports.
 fn in_range(from: Port, to: Port) -> bool
