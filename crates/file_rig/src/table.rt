@@ -11,6 +11,6 @@ pub struct FileRig {
 
 pub mod adding;
 pub mod calls;
-mod lending;
 pub mod fault;
+mod lending;
 pub mod words;

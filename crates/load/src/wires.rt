@@ -11,8 +11,8 @@ use file_rig::table::FileRig;
 use files::cursor::Cursor;
 use lines::fault::{FileFault, LineFault};
 use lines::wire::WireLine;
-use wiring::port::Port;
 use wiring::fault::WireFault;
+use wiring::port::Port;
 use wiring::table::Wiring;
 
 /// A port by the name of its unit, which is known.

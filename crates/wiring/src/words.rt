@@ -1,6 +1,6 @@
 // Refusals of a wire in words, for those who print them.
-use super::port::Port;
 use super::fault::WireFault;
+use super::port::Port;
 use std::error::Error;
 use std::fmt;
 

@@ -5,8 +5,8 @@ ghost use Rattle.file_rig.specs.Adding.{FoundAt, Added};
 ghost use Rattle.file_rig.specs.Describing.{Described};
 
 use super::FileRig;
-use super::lending::{count, design_at, find_in, name_at, push_unit};
 use super::fault::AddFault;
+use super::lending::{count, design_at, find_in, name_at, push_unit};
 use kinds::body::Body;
 use kinds::design::Design;
 use names::name::Name;

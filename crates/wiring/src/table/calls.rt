@@ -2,8 +2,8 @@ ghost use Rattle.std.specs.Prelude.{◌≡◌, ℕ, None, Decides};
 ghost use Rattle.wiring.specs.Wires.{source_of, InRange, OneMore, Added};
 
 use super::Wiring;
-use crate::port::Port;
 use crate::fault::WireFault;
+use crate::port::Port;
 
 /// Whether both ends of a wire are within 16 units of 8 ports.
 fn in_range(from: Port, to: Port) -> bool

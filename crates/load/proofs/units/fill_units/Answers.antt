@@ -19,12 +19,12 @@ returns-in-Err c = record {
   grammar = units_law c.args.bytes.now;
 }
 
-pub returns-in-Err-add-line : goal.returns-in-Err-add-line
-returns-in-Err-add-line c =
+pub returns-in-Err-add_line : goal.returns-in-Err-add_line
+returns-in-Err-add_line c =
     let u = unit_said c.in-Ok-answer.line in
     let us = c.loop-answer.invariant.0 in
     let p = position_of c.loop-answer.cursor in
-    let a = unit_ahead (names_of c.loop-answer.rig) p c.next-unit.result c.in-Some.answer c.in-Ok-answer.line c.in-Some.is c.in-Ok-answer.is c.next-unit.ensures.answer in
+    let a = unit_ahead (names_of c.loop-answer.rig) p c.next_unit.result c.in-Some.answer c.in-Ok-answer.line c.in-Some.is c.in-Ok-answer.is c.next_unit.ensures.answer in
     record {
       filled = (
         c.in-Ok.most,
@@ -41,7 +41,7 @@ pub returns-in-Err-answer : goal.returns-in-Err-answer
 returns-in-Err-answer c =
     let p = position_of c.loop-answer.cursor in
     let e : Some (Err c.in-Err-answer.fault) ≡ answer_at (judge_unit c.loop-answer.invariant.0) p =
-    sym (ap unit_given (c.in-Some.is ∙ ap Some c.in-Err-answer.is)) ∙ (c.next-unit.ensures.answer ∙ ap (λ known. answer_at (unit_line known) p) c.loop-answer.invariant.1.names) in
+    sym (ap unit_given (c.in-Some.is ∙ ap Some c.in-Err-answer.is)) ∙ (c.next_unit.ensures.answer ∙ ap (λ known. answer_at (unit_line known) p) c.loop-answer.invariant.1.names) in
     record {
       filled = c.loop-answer.invariant.2 ∙ ap (with_cap c.in-Ok.most) (lines_refused judge_unit c.loop-answer.invariant.0 p c.in-Err-answer.fault e);
       grammar = units_law c.args.bytes.now;
@@ -53,31 +53,31 @@ returns c = record { filled = search rules; grammar = units_law c.args.bytes.now
 pub loop-answer-init : goal.loop-answer-init
 loop-answer-init c =
     let h = head_read cap_of (λ n lines. with_cap n (lines_from judge_unit 2 [] lines)) c.args.bytes.now c.in-Ok.most (c.in-Ok.ensures.answer ∙ ap (heading_at cap_of) c.new-cursor.ensures) in
-    let q : position_of c.units-heading.new.self ≡ passed (start c.args.bytes.now) (length h.first) =
+    let q : position_of c.units_heading.new.self ≡ passed (start c.args.bytes.now) (length h.first) =
     c.in-Ok.ensures.cursor ∙ (ap (after_heading cap_of) c.new-cursor.ensures ∙ h.after) in (
       [],
       record { units = c.clear.ensures.units; names = c.clear.ensures.names },
       h.file ∙ sym (ap (λ p. with_cap c.in-Ok.most (lines_from judge_unit p.line [] (ahead p))) q),
     )
 
-pub add-line-requires : goal.add-line-requires
-add-line-requires c =
-    let a = unit_ahead (names_of c.loop-answer.rig) (position_of c.loop-answer.cursor) c.next-unit.result c.in-Some.answer c.in-Ok-answer.line c.in-Some.is c.in-Ok-answer.is c.next-unit.ensures.answer in
+pub add_line-requires : goal.add_line-requires
+add_line-requires c =
+    let a = unit_ahead (names_of c.loop-answer.rig) (position_of c.loop-answer.cursor) c.next_unit.result c.in-Some.answer c.in-Ok-answer.line c.in-Some.is c.in-Ok-answer.is c.next_unit.ensures.answer in
     unit_proper (names_of c.loop-answer.rig) a.text (unit_said c.in-Ok-answer.line) a.judged
 
 pub loop-answer-preserved : goal.loop-answer-preserved
 loop-answer-preserved c =
     let u = unit_said c.in-Ok-answer.line in
     let us = c.loop-answer.invariant.0 in
-    let a = unit_ahead (names_of c.loop-answer.rig) (position_of c.loop-answer.cursor) c.next-unit.result c.in-Some.answer c.in-Ok-answer.line c.in-Some.is c.in-Ok-answer.is c.next-unit.ensures.answer in
-    let q : position_of c.next-unit.new.self ≡ passed (position_of c.loop-answer.cursor) (length a.text) = c.next-unit.ensures.cursor ∙ a.after in (
+    let a = unit_ahead (names_of c.loop-answer.rig) (position_of c.loop-answer.cursor) c.next_unit.result c.in-Some.answer c.in-Ok-answer.line c.in-Some.is c.in-Ok-answer.is c.next_unit.ensures.answer in
+    let q : position_of c.next_unit.new.self ≡ passed (position_of c.loop-answer.cursor) (length a.text) = c.next_unit.ensures.cursor ∙ a.after in (
       us ++ u ∷ [],
-      held_more c.loop-answer.rig c.add-line.new.rig us u c.loop-answer.invariant.1 c.in-default-add-line.ensures,
+      held_more c.loop-answer.rig c.add_line.new.rig us u c.loop-answer.invariant.1 c.in_default-add_line.ensures,
       c.loop-answer.invariant.2 ∙ ap (with_cap c.in-Ok.most) (units_on (names_of c.loop-answer.rig) us u (position_of c.loop-answer.cursor) c.loop-answer.invariant.1.names a
           ∙ sym (ap (λ p. lines_from judge_unit p.line (us ++ u ∷ []) (ahead p)) q)),
     )
 
 pub loop-answer-smaller : goal.loop-answer-smaller
 loop-answer-smaller c =
-    let a = unit_ahead (names_of c.loop-answer.rig) (position_of c.loop-answer.cursor) c.next-unit.result c.in-Some.answer c.in-Ok-answer.line c.in-Some.is c.in-Ok-answer.is c.next-unit.ensures.answer in
-    fewer_left (position_of c.loop-answer.cursor) (position_of c.next-unit.new.self) (length a.text) (c.next-unit.ensures.cursor ∙ a.after) c.next-unit.new.self.within
+    let a = unit_ahead (names_of c.loop-answer.rig) (position_of c.loop-answer.cursor) c.next_unit.result c.in-Some.answer c.in-Ok-answer.line c.in-Some.is c.in-Ok-answer.is c.next_unit.ensures.answer in
+    fewer_left (position_of c.loop-answer.cursor) (position_of c.next_unit.new.self) (length a.text) (c.next_unit.ensures.cursor ∙ a.after) c.next_unit.new.self.within

@@ -14,19 +14,19 @@ pub loop-answer-init : goal.loop-answer-init
 loop-answer-init c =
     let known = names_of c.args.rig.now in
     let h = head_read wires_head (λ _ lines. lines_from (judge_wire known) 2 [] lines) c.args.bytes.now tt
-    (sym c.in-ok-wires-heading.was ∙ (c.wires-heading.ensures.answer ∙ ap (heading_at wires_head) c.new-cursor.ensures)) in
-    let q : position_of c.wires-heading.new.self ≡ passed (start c.args.bytes.now) (length h.first) =
-    c.wires-heading.ensures.cursor ∙ (ap (after_heading wires_head) c.new-cursor.ensures ∙ h.after) in (
+    (sym c.in_ok-wires_heading.was ∙ (c.wires_heading.ensures.answer ∙ ap (heading_at wires_head) c.new-cursor.ensures)) in
+    let q : position_of c.wires_heading.new.self ≡ passed (start c.args.bytes.now) (length h.first) =
+    c.wires_heading.ensures.cursor ∙ (ap (after_heading wires_head) c.new-cursor.ensures ∙ h.after) in (
       [],
       c.clear.ensures,
       h.file ∙ sym (ap (λ p. lines_from (judge_wire known) p.line [] (ahead p)) q),
       c.line-number.ensures,
     )
 
-pub add-wire-requires : goal.add-wire-requires
-add-wire-requires c =
+pub add_wire-requires : goal.add_wire-requires
+add_wire-requires c =
     let known = names_of c.args.rig.now in
-    let a = wire_ahead known (position_of c.loop-answer.cursor) c.next-wire.result c.in-Some.answer c.in-ok-line.line c.in-Some.is c.in-ok-line.was c.next-wire.ensures.answer in
+    let a = wire_ahead known (position_of c.loop-answer.cursor) c.next_wire.result c.in-Some.answer c.in_ok-line.line c.in-Some.is c.in_ok-line.was c.next_wire.ensures.answer in
     (few_names c.args.rig.now, (a.wire, a.names, wire_proper known a.ahead.text a.wire a.ahead.judged))
 
 pub returns-in-Err : goal.returns-in-Err
@@ -34,7 +34,7 @@ returns-in-Err c =
     let known = names_of c.args.rig.now in
     let p = position_of c.loop-answer.cursor in
     let ws = c.loop-answer.invariant.0 in
-    let a = wire_ahead known p c.next-wire.result c.in-Some.answer c.in-ok-line.line c.in-Some.is c.in-ok-line.was c.next-wire.ensures.answer in
+    let a = wire_ahead known p c.next_wire.result c.in-Some.answer c.in_ok-line.line c.in-Some.is c.in_ok-line.was c.next_wire.ensures.answer in
     let t = c.in-Err.ensures a.wire a.names in
     record {
       filled = c.loop-answer.invariant.2 ∙ (wires_twice known ws a.wire p a.ahead t.1.0 (sym (c.loop-answer.invariant.1 a.wire.to.unit a.wire.to.port) ∙ t.1.1)
@@ -42,11 +42,11 @@ returns-in-Err c =
       grammar = wires_law known c.args.bytes.now;
     }
 
-pub returns-in-err-wires-heading : goal.returns-in-err-wires-heading
-returns-in-err-wires-heading c = record { filled = search rules; grammar = wires_law (names_of c.args.rig.now) c.args.bytes.now }
+pub returns-in_err-wires_heading : goal.returns-in_err-wires_heading
+returns-in_err-wires_heading c = record { filled = search rules; grammar = wires_law (names_of c.args.rig.now) c.args.bytes.now }
 
-pub returns-in-err-line : goal.returns-in-err-line
-returns-in-err-line c = record { filled = search rules; grammar = wires_law (names_of c.args.rig.now) c.args.bytes.now }
+pub returns-in_err-line : goal.returns-in_err-line
+returns-in_err-line c = record { filled = search rules; grammar = wires_law (names_of c.args.rig.now) c.args.bytes.now }
 
 pub returns : goal.returns
 returns c = record { filled = search rules; grammar = wires_law (names_of c.args.rig.now) c.args.bytes.now }
@@ -56,11 +56,11 @@ loop-answer-preserved c =
     let known = names_of c.args.rig.now in
     let p = position_of c.loop-answer.cursor in
     let ws = c.loop-answer.invariant.0 in
-    let a = wire_ahead known p c.next-wire.result c.in-Some.answer c.in-ok-line.line c.in-Some.is c.in-ok-line.was c.next-wire.ensures.answer in
-    let t = c.in-default-add-wire.ensures a.wire a.names in
-    let q : position_of c.next-wire.new.self ≡ passed p (length a.ahead.text) = c.next-wire.ensures.cursor ∙ a.ahead.after in (
+    let a = wire_ahead known p c.next_wire.result c.in-Some.answer c.in_ok-line.line c.in-Some.is c.in_ok-line.was c.next_wire.ensures.answer in
+    let t = c.in_default-add_wire.ensures a.wire a.names in
+    let q : position_of c.next_wire.new.self ≡ passed p (length a.ahead.text) = c.next_wire.ensures.cursor ∙ a.ahead.after in (
       ws ++ a.wire ∷ [],
-      held_wire c.loop-answer.wiring c.add-wire.new.wiring ws a.wire c.loop-answer.invariant.1 t.0 t.1,
+      held_wire c.loop-answer.wiring c.add_wire.new.wiring ws a.wire c.loop-answer.invariant.1 t.0 t.1,
       c.loop-answer.invariant.2 ∙ (wires_on known ws a.wire p a.ahead (sym (c.loop-answer.invariant.1 a.wire.to.unit a.wire.to.port) ∙ t.0)
           ∙ sym (ap (λ r. lines_from (judge_wire known) r.line (ws ++ a.wire ∷ []) (ahead r)) q)),
       c.line-number-in-Some.ensures,
@@ -68,5 +68,5 @@ loop-answer-preserved c =
 
 pub loop-answer-smaller : goal.loop-answer-smaller
 loop-answer-smaller c =
-    let a = wire_ahead (names_of c.args.rig.now) (position_of c.loop-answer.cursor) c.next-wire.result c.in-Some.answer c.in-ok-line.line c.in-Some.is c.in-ok-line.was c.next-wire.ensures.answer in
-    fewer_left (position_of c.loop-answer.cursor) (position_of c.next-wire.new.self) (length a.ahead.text) (c.next-wire.ensures.cursor ∙ a.ahead.after) c.next-wire.new.self.within
+    let a = wire_ahead (names_of c.args.rig.now) (position_of c.loop-answer.cursor) c.next_wire.result c.in-Some.answer c.in_ok-line.line c.in-Some.is c.in_ok-line.was c.next_wire.ensures.answer in
+    fewer_left (position_of c.loop-answer.cursor) (position_of c.next_wire.new.self) (length a.ahead.text) (c.next_wire.ensures.cursor ∙ a.ahead.after) c.next_wire.new.self.within

@@ -11,7 +11,7 @@ returns-in-45 c =
     let v = c.negative.ensures ∙ sym (number_minus text some minus) in
     record { value = v; law = says_so text _ v }
 
-pub returns-in-default : goal.returns-in-default
-returns-in-default c =
+pub returns-in_default : goal.returns-in_default
+returns-in_default c =
     let v : c.positive.result ≡ number_of c.args.text.now = search rules in
     record { value = v; law = says_so c.args.text.now _ v }

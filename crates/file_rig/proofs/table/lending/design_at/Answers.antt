@@ -4,8 +4,8 @@ use Rattle.file_rig.proofs.Lending.{told_missing}
 use Rattle.file_rig.proofs.Describe.{described_there}
 use Rattle.file_rig.proofs.table.lending.design_at.Goals as goal
 
-pub returns-in-default : goal.returns-in-default
-returns-in-default c = sym (told_missing standing c.args.units.now c.args.unit c.new.result c.new.ensures c.in-default.ensures.lookup.3)
+pub returns-in_default : goal.returns-in_default
+returns-in_default c = sym (told_missing standing c.args.units.now c.args.unit c.new.result c.new.ensures c.in_default.ensures.lookup.3)
 
 pub returns : goal.returns
 returns c =

@@ -2,8 +2,8 @@ use Rattle.rig.specs.Calls.{get}
 use Rattle.file_rig.proofs.Lending.{told_missing, told_there}
 use Rattle.file_rig.proofs.table.lending.get_at.Goals as goal
 
-pub returns-in-default : goal.returns-in-default
-returns-in-default c = told_missing (get c.args.port) c.args.units.now c.args.unit c.new.result c.new.ensures c.in-default.ensures.lookup.3
+pub returns-in_default : goal.returns-in_default
+returns-in_default c = told_missing (get c.args.port) c.args.units.now c.args.unit c.new.result c.new.ensures c.in_default.ensures.lookup.3
 
 pub returns : goal.returns
 returns c =

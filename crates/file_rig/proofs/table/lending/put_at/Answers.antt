@@ -5,8 +5,8 @@ use Rattle.file_rig.specs.Record.{unit_of}
 use Rattle.file_rig.proofs.Lending.{lent_missing, lent_there}
 use Rattle.file_rig.proofs.table.lending.put_at.Goals as goal
 
-pub returns-in-default : goal.returns-in-default
-returns-in-default c = lent_missing (put c.args.port c.args.value) c.args.units.now c.args.unit c.new.result c.new.ensures c.in-default.ensures.item.3
+pub returns-in_default : goal.returns-in_default
+returns-in_default c = lent_missing (put c.args.port c.args.value) c.args.units.now c.args.unit c.new.result c.new.ensures c.in_default.ensures.item.3
 
 pub returns : goal.returns
 returns c =

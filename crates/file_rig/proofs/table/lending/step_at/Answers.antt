@@ -2,8 +2,8 @@ use Rattle.rig.specs.Calls.{step}
 use Rattle.file_rig.proofs.Lending.{lent_missing, lent_there}
 use Rattle.file_rig.proofs.table.lending.step_at.Goals as goal
 
-pub returns-in-default : goal.returns-in-default
-returns-in-default c = lent_missing (step c.args.h) c.args.units.now c.args.unit c.new.result c.new.ensures c.in-default.ensures.item.3
+pub returns-in_default : goal.returns-in_default
+returns-in_default c = lent_missing (step c.args.h) c.args.units.now c.args.unit c.new.result c.new.ensures c.in_default.ensures.item.3
 
 pub returns : goal.returns
 returns c =

@@ -4,8 +4,8 @@ use Rattle.memory.proofs.Reading.{freed_unit}
 use Rattle.file_rig.proofs.OneKind.{freed_kind}
 use Rattle.file_rig.proofs.unit.FileUnit.free.Goals as goal
 
-pub invariant-of-self : goal.invariant-of-self
-invariant-of-self c =
+pub invariant_of-self : goal.invariant_of-self
+invariant_of-self c =
     freed_kind c.args.self.now.kind c.args.place c.args.self.now.memory c.free.new.self c.free.result c.args.self.now.holds c.args.self.now.keeps
     c.free.ensures
 

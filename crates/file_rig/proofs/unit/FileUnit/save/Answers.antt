@@ -4,8 +4,8 @@ use Rattle.memory.proofs.Reading.{saved_unit}
 use Rattle.file_rig.proofs.OneKind.{saved_kind}
 use Rattle.file_rig.proofs.unit.FileUnit.save.Goals as goal
 
-pub invariant-of-self : goal.invariant-of-self
-invariant-of-self c =
+pub invariant_of-self : goal.invariant_of-self
+invariant_of-self c =
     saved_kind c.args.self.now.kind c.args.place c.args.self.now.memory c.save.new.self c.save.result c.args.self.now.holds c.args.self.now.keeps
     c.save.ensures
 

@@ -8,7 +8,7 @@ returns-in-First g c =
 
 pub returns-in-Second : goal.returns-in-Second
 returns-in-Second g c =
-    answer_second ports (g.P.Rig.model c.args.first.now) (g.Q.Rig.model c.args.second.now) c.args.unit c.in-Second.inner c.units.ensures c.in-Second.ensures c.ports-second.ensures
+    answer_second ports (g.P.Rig.model c.args.first.now) (g.Q.Rig.model c.args.second.now) c.args.unit c.in-Second.inner c.units.ensures c.in-Second.ensures c.ports_second.ensures
 
 pub returns-in-Neither : goal.returns-in-Neither
 returns-in-Neither g c = answer_neither ports (g.P.Rig.model c.args.first.now) (g.Q.Rig.model c.args.second.now) c.args.unit c.in-Neither.ensures c.new.ensures

@@ -8,7 +8,7 @@ returns-in-First g c =
 
 pub returns-in-Second : goal.returns-in-Second
 returns-in-Second g c =
-    called_second (restore c.args.place) (g.P.Rig.model c.args.first.now) (g.Q.Rig.model c.args.second.now) c.args.unit c.in-Second.inner c.units.ensures c.in-Second.ensures c.restore-second.ensures
+    called_second (restore c.args.place) (g.P.Rig.model c.args.first.now) (g.Q.Rig.model c.args.second.now) c.args.unit c.in-Second.inner c.units.ensures c.in-Second.ensures c.restore_second.ensures
 
 pub returns-in-Neither : goal.returns-in-Neither
 returns-in-Neither g c = called_neither (restore c.args.place) (g.P.Rig.model c.args.first.now) (g.Q.Rig.model c.args.second.now) c.args.unit c.in-Neither.ensures c.new.ensures

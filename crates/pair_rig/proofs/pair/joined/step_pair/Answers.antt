@@ -8,7 +8,7 @@ returns-in-First g c =
 
 pub returns-in-Second : goal.returns-in-Second
 returns-in-Second g c =
-    called_second (step c.args.h) (g.P.Rig.model c.args.first.now) (g.Q.Rig.model c.args.second.now) c.args.unit c.in-Second.inner c.units.ensures c.in-Second.ensures c.step-second.ensures
+    called_second (step c.args.h) (g.P.Rig.model c.args.first.now) (g.Q.Rig.model c.args.second.now) c.args.unit c.in-Second.inner c.units.ensures c.in-Second.ensures c.step_second.ensures
 
 pub returns-in-Neither : goal.returns-in-Neither
 returns-in-Neither g c = called_neither (step c.args.h) (g.P.Rig.model c.args.first.now) (g.Q.Rig.model c.args.second.now) c.args.unit c.in-Neither.ensures c.new.ensures

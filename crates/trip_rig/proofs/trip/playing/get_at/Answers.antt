@@ -8,4 +8,4 @@ returns-then-unit-count c = told_none (get c.args.port) c.args.segments.now c.ar
 
 pub returns : goal.returns
 returns c =
-    told_player (get c.args.port) c.args.segments.now c.args.memory.now c.args.unit (omega arith) c.get-player.result c.blame.result c.blame.ensures c.get-player.ensures
+    told_player (get c.args.port) c.args.segments.now c.args.memory.now c.args.unit (omega arith) c.get_player.result c.blame.result c.blame.ensures c.get_player.ensures

@@ -8,4 +8,4 @@ returns-then-unit-count c = told_none (mask c.args.port) c.args.segments.now c.a
 
 pub returns : goal.returns
 returns c =
-    told_player (mask c.args.port) c.args.segments.now c.args.memory.now c.args.unit (omega arith) c.mask-player.result c.blame.result c.blame.ensures c.mask-player.ensures
+    told_player (mask c.args.port) c.args.segments.now c.args.memory.now c.args.unit (omega arith) c.mask_player.result c.blame.result c.blame.ensures c.mask_player.ensures

@@ -8,4 +8,4 @@ returns-then-unit-count c = called_none (step c.args.h) c.args.segments.now c.ar
 
 pub returns : goal.returns
 returns c =
-    called_player (step c.args.h) c.args.segments.now c.args.memory.now c.step-player.new.memory c.args.unit (omega arith) c.step-player.result c.blame.result c.blame.ensures c.step-player.ensures
+    called_player (step c.args.h) c.args.segments.now c.args.memory.now c.step_player.new.memory c.args.unit (omega arith) c.step_player.result c.blame.result c.blame.ensures c.step_player.ensures
