@@ -26,30 +26,26 @@ module _ (k : Kind) where
   both_ways test false x y d e = e
 
   -- the two invariants of a record, over its memory
-  abbrev pub OneKind : Memory Body → Type 0
-  OneKind m = (of_kind k m.held ≡ true) × ((all_of_kind k m.places ≡ true) × Unit {0})
+  pub record OneKind (m : Memory Body) : Type 0 where
+    pub holds : of_kind k m.held ≡ true
+    pub keeps : all_of_kind k m.places ≡ true
 
   module _ (p : ℕ) (m n : Memory Body) (r : Result (Unit {0}) Cause) (holds : of_kind k m.held ≡ true) (keeps : all_of_kind k m.places ≡ true) where
     pub saved_kind : Saved p m r n → OneKind n
-    saved_kind s = (
-      ap (of_kind k) s.held ∙ holds,
-      (
-        ap (all_of_kind k) s.places ∙ both_ways (all_of_kind k) (is_ok r) (set m.places p m.held) m.places (kind_set m.places p m.held keeps holds) keeps,
-        tt,
-      ),
-    )
+    saved_kind s = record {
+      holds = ap (of_kind k) s.held ∙ holds;
+      keeps =
+          ap (all_of_kind k) s.places ∙ both_ways (all_of_kind k) (is_ok r) (set m.places p m.held) m.places (kind_set m.places p m.held keeps holds) keeps;
+    }
 
     pub restored_kind : Restored p m r n → OneKind n
-    restored_kind s = (
-      ap (of_kind k) s.held ∙ both_ways (of_kind k) (is_ok r) (get_or m.places p None) m.held (kind_at m.places p keeps) holds,
-      (ap (all_of_kind k) s.places ∙ keeps, tt),
-    )
+    restored_kind s = record {
+      holds = ap (of_kind k) s.held ∙ both_ways (of_kind k) (is_ok r) (get_or m.places p None) m.held (kind_at m.places p keeps) holds;
+      keeps = ap (all_of_kind k) s.places ∙ keeps;
+    }
 
     pub freed_kind : Freed p m r n → OneKind n
-    freed_kind s = (
-      ap (of_kind k) s.held ∙ holds,
-      (
-        ap (all_of_kind k) s.places ∙ both_ways (all_of_kind k) (is_ok r) (set m.places p None) m.places (kind_set m.places p None keeps refl) keeps,
-        tt,
-      ),
-    )
+    freed_kind s = record {
+      holds = ap (of_kind k) s.held ∙ holds;
+      keeps = ap (all_of_kind k) s.places ∙ both_ways (all_of_kind k) (is_ok r) (set m.places p None) m.places (kind_set m.places p None keeps refl) keeps;
+    }

@@ -6,8 +6,8 @@ use Rattle.file_rig.proofs.unit.FileUnit.free.Goals as goal
 
 pub invariant_of-self : goal.invariant_of-self
 invariant_of-self c =
-    freed_kind c.args.self.now.kind c.args.place c.args.self.now.memory c.free.new.self c.free.result c.args.self.now.holds c.args.self.now.keeps
-    c.free.ensures
+    let one = freed_kind c.args.self.now.kind c.args.place c.args.self.now.memory c.free.new.self c.free.result c.args.self.now.holds c.args.self.now.keeps c.free.ensures in
+    record { holds = one.holds; keeps = one.keeps }
 
 pub returns : goal.returns
 returns c =

@@ -6,8 +6,8 @@ use Rattle.file_rig.proofs.unit.FileUnit.restore.Goals as goal
 
 pub invariant_of-self : goal.invariant_of-self
 invariant_of-self c =
-    restored_kind c.args.self.now.kind c.args.place c.args.self.now.memory c.restore.new.self c.restore.result c.args.self.now.holds c.args.self.now.keeps
-    c.restore.ensures
+    let one = restored_kind c.args.self.now.kind c.args.place c.args.self.now.memory c.restore.new.self c.restore.result c.args.self.now.holds c.args.self.now.keeps c.restore.ensures in
+    record { holds = one.holds; keeps = one.keeps }
 
 pub returns : goal.returns
 returns c =

@@ -6,8 +6,8 @@ use Rattle.file_rig.proofs.unit.FileUnit.save.Goals as goal
 
 pub invariant_of-self : goal.invariant_of-self
 invariant_of-self c =
-    saved_kind c.args.self.now.kind c.args.place c.args.self.now.memory c.save.new.self c.save.result c.args.self.now.holds c.args.self.now.keeps
-    c.save.ensures
+    let one = saved_kind c.args.self.now.kind c.args.place c.args.self.now.memory c.save.new.self c.save.result c.args.self.now.holds c.args.self.now.keeps c.save.ensures in
+    record { holds = one.holds; keeps = one.keeps }
 
 pub returns : goal.returns
 returns c =
