@@ -117,7 +117,7 @@ fn units_changed(rt: &impl Abort, heap: Global, text: &[u8], rows: &[Places]) ->
             let file = changed(heap, text, place, byte)?;
             let told = answer_for(rows, place, byte);
             let units = if told == FINE { 1 } else { 0 };
-            units_file(rt, heap, &mut rig, place, &[&file], told, units).note(byte)?;
+            units_file(rt, heap, &mut rig, (place, byte), &[&file], told, units)?;
         }
     }
     Ok(())
@@ -131,7 +131,16 @@ fn wires_changed(rt: &impl Abort, heap: Global, text: &[u8], rows: &[Places]) ->
             let file = changed(heap, text, place, byte)?;
             let told = answer_for(rows, place, byte);
             let wires = if told == FINE { 1 } else { 0 };
-            wires_file(rt, heap, &rig, &mut wiring, place, &[&file], told, wires).note(byte)?;
+            wires_file(
+                rt,
+                heap,
+                &rig,
+                &mut wiring,
+                (place, byte),
+                &[&file],
+                told,
+                wires,
+            )?;
         }
     }
     Ok(())

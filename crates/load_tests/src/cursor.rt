@@ -58,42 +58,43 @@ fn units_walk(
     rt: &impl Abort,
     heap: Global,
     lines: &[(&[u8], &[u8])],
+    row: usize,
     stop: &Stop,
 ) -> Result<(), Fail> {
     let (count, after, told) = *stop;
     let file = begun(heap, b"UNITS,1,9\n", lines, count, after)?;
     let mut rig = FileRig::new(heap);
     let mut cursor = Cursor::new(&file);
-    assert_eq!(rt; place(&cursor), (1, 0));
-    assert_eq!(rt; cursor.units_heading(), Ok(9));
+    assert_eq!(rt; place(&cursor), (1, 0), "stop {row}");
+    assert_eq!(rt; cursor.units_heading(), Ok(9), "stop {row}");
     let mut line: usize = 2;
     let mut at: usize = 10;
     for (text, name) in lines.iter().take(count) {
-        assert_eq!(rt; place(&cursor), (line, at));
+        assert_eq!(rt; place(&cursor), (line, at), "stop {row}");
         let Some(Ok(read)) = cursor.next_unit(&rig) else {
             return Err(Fail::new("a line is not read"));
         };
-        assert_eq!(rt; read.name(), *name);
+        assert_eq!(rt; read.name(), *name, "stop {row}");
         rig.add(read.name(), read.design())?;
         line = line.saturating_add(1);
         at = at.saturating_add(text.len());
     }
-    assert_eq!(rt; place(&cursor), (line, at));
+    assert_eq!(rt; place(&cursor), (line, at), "stop {row}");
     match cursor.next_unit(&rig) {
         Some(Ok(_)) => return Err(Fail::new("a line too many")),
-        Some(Err(fault)) => assert_eq!(rt; told_of(fault), told),
-        None => assert_eq!(rt; told, FINE),
+        Some(Err(fault)) => assert_eq!(rt; told_of(fault), told, "stop {row}"),
+        None => assert_eq!(rt; told, FINE, "stop {row}"),
     }
-    assert_eq!(rt; place(&cursor), (line, file.len()));
-    assert!(rt; cursor.next_unit(&rig).is_none());
-    assert_eq!(rt; place(&cursor), (line, file.len()));
+    assert_eq!(rt; place(&cursor), (line, file.len()), "stop {row}");
+    assert!(rt; cursor.next_unit(&rig).is_none(), "stop {row}");
+    assert_eq!(rt; place(&cursor), (line, file.len()), "stop {row}");
     Ok(())
 }
 
 #[test]
 fn a_cursor_over_units(rt: HostRuntime) -> Result<(), Fail> {
     for (row, stop) in UNITS_STOPS.iter().enumerate() {
-        units_walk(&rt, rt.alloc(), &UNITS, stop).note(row)?;
+        units_walk(&rt, rt.alloc(), &UNITS, row, stop)?;
     }
     Ok(())
 }
@@ -122,33 +123,34 @@ fn wires_walk(
     heap: Global,
     rig: &FileRig,
     lines: &[(&[u8], &[u8])],
+    row: usize,
     stop: &Stop,
 ) -> Result<(), Fail> {
     let (count, after, told) = *stop;
     let file = begun(heap, b"WIRES,1\n", lines, count, after)?;
     let mut cursor = Cursor::new(&file);
-    assert_eq!(rt; place(&cursor), (1, 0));
-    assert_eq!(rt; cursor.wires_heading(), Ok(()));
+    assert_eq!(rt; place(&cursor), (1, 0), "stop {row}");
+    assert_eq!(rt; cursor.wires_heading(), Ok(()), "stop {row}");
     let mut line: usize = 2;
     let mut at: usize = 8;
     for (text, name) in lines.iter().take(count) {
-        assert_eq!(rt; place(&cursor), (line, at));
+        assert_eq!(rt; place(&cursor), (line, at), "stop {row}");
         let Some(Ok(read)) = cursor.next_wire(rig) else {
             return Err(Fail::new("a line is not read"));
         };
-        assert_eq!(rt; read.target().0, *name);
+        assert_eq!(rt; read.target().0, *name, "stop {row}");
         line = line.saturating_add(1);
         at = at.saturating_add(text.len());
     }
-    assert_eq!(rt; place(&cursor), (line, at));
+    assert_eq!(rt; place(&cursor), (line, at), "stop {row}");
     match cursor.next_wire(rig) {
         Some(Ok(_)) => return Err(Fail::new("a line too many")),
-        Some(Err(fault)) => assert_eq!(rt; told_of(fault), told),
-        None => assert_eq!(rt; told, FINE),
+        Some(Err(fault)) => assert_eq!(rt; told_of(fault), told, "stop {row}"),
+        None => assert_eq!(rt; told, FINE, "stop {row}"),
     }
-    assert_eq!(rt; place(&cursor), (line, file.len()));
-    assert!(rt; cursor.next_wire(rig).is_none());
-    assert_eq!(rt; place(&cursor), (line, file.len()));
+    assert_eq!(rt; place(&cursor), (line, file.len()), "stop {row}");
+    assert!(rt; cursor.next_wire(rig).is_none(), "stop {row}");
+    assert_eq!(rt; place(&cursor), (line, file.len()), "stop {row}");
     Ok(())
 }
 
@@ -156,7 +158,7 @@ fn wires_walk(
 fn a_cursor_over_wires(rt: HostRuntime) -> Result<(), Fail> {
     let rig = sixteen(rt.alloc());
     for (row, stop) in WIRES_STOPS.iter().enumerate() {
-        wires_walk(&rt, rt.alloc(), &rig, &WIRES, stop).note(row)?;
+        wires_walk(&rt, rt.alloc(), &rig, &WIRES, row, stop)?;
     }
     Ok(())
 }
@@ -183,9 +185,9 @@ fn first_end<'a>(file: &'a [u8], rig: &FileRig) -> &'a [u8] {
 #[test]
 fn names_outlive_the_cursor(rt: HostRuntime) {
     let rig = sixteen(rt.alloc());
-    assert!(rt; first_end(b"WIRES,1\nW,winch,0,b,0\n", &rig) == b"winch");
+    assert!(rt; first_end(b"WIRES,1\nW,winch,0,b,0\n", &rig) == b"winch".as_slice());
     let empty = FileRig::new(rt.alloc());
-    assert!(rt; first_name(b"UNITS,1,9\nK,draw,1\n", &empty) == b"draw");
+    assert!(rt; first_name(b"UNITS,1,9\nK,draw,1\n", &empty) == b"draw".as_slice());
 }
 
 const NO_HEADING: [&[u8]; 5] = [

@@ -59,6 +59,7 @@ fn told(wiring: &mut Wiring, from: Port, to: Port) -> Told {
 // Every input has the source that it had, but one that was wired since.
 fn differ_at_most_at(
     rt: &impl Abort,
+    row: usize,
     before: &Wiring,
     after: &Wiring,
     wired: Option<(Port, Port)>,
@@ -70,7 +71,11 @@ fn differ_at_most_at(
                 Some((from, to)) if to == at => Some(from),
                 _ => before.source(at),
             };
-            assert_eq!(rt; after.source(at), source, "unit {unit}, input {port}");
+            assert_eq!(rt;
+                after.source(at),
+                source,
+                "row {row}, unit {unit}, input {port}"
+            );
         }
     }
     Ok(())
@@ -95,7 +100,7 @@ fn wires_by_numbers(rt: HostRuntime) -> Result<(), Fail> {
         } else {
             None
         };
-        differ_at_most_at(&rt, &before, &wiring, wired).note(row)?;
+        differ_at_most_at(&rt, row, &before, &wiring, wired)?;
     }
     assert_eq!(rt;
         wiring.source(Port {

@@ -6,6 +6,7 @@ use load::units::load_units;
 use load::wires::load_wires;
 use rig::Rig;
 use std::alloc::{AllocError, Global};
+use std::fmt::Debug;
 use std::process::Abort;
 use std::test::Fail;
 use wiring::port::Port;
@@ -84,7 +85,7 @@ pub fn units_file(
     rt: &impl Abort,
     heap: Global,
     rig: &mut FileRig,
-    row: usize,
+    row: impl Copy + Debug + PartialEq,
     parts: &[&[u8]],
     told: Told,
     units: usize,
@@ -124,7 +125,7 @@ pub fn wires_file(
     heap: Global,
     rig: &FileRig,
     wiring: &mut Wiring,
-    row: usize,
+    row: impl Copy + Debug + PartialEq,
     parts: &[&[u8]],
     told: Told,
     wires: usize,
