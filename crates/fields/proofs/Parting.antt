@@ -2,7 +2,7 @@
 use Rattle.std.proofs.Common.{◌≡◌, ℕ, zero, suc, ◌+◌, ◌-◌, ◌<◌, ◌≤◌, Bool, true, false, cond, eqb, ◌⊎◌, List, [], ◌∷◌, ◌++◌, length, get_or, take, drop, Some, None, Option, sym, refl, ap, ◌∙◌, subst, inl, inr, ⊎_elim, add-one, arith}
 use Rattle.std.proofs.lemmas.List.{at_drop_more, take_rest}
 use Rattle.std.proofs.lemmas.Bool.{eq-eqb, ne_eqb, cases_eq}
-use Rattle.std.specs.List.{AllByRecursion as All}
+use Rattle.std.specs.List.{AllByRecursion}
 use Rattle.fields.specs.Parts.{parts, onto, joined_by, Lacks, Parted, PartsLaw, FirstAt}
 
 drop_past : (p : List ℕ) (b : ℕ) (t : List ℕ) → drop (suc (length p)) (p ++ (b ∷ t)) ≡ t
@@ -94,15 +94,15 @@ module _ (sep : ℕ) where
       (λ (ne : b ≡ sep → ⊥). ap (joined_by sep) (parts_other b bs ne) ∙ (joined_onto b (parts sep bs) (some_part bs) ∙ ap (λ t. b ∷ t) (joined_parts bs)))
       (cases_eq b sep)
 
-  apart_onto : (b : ℕ) (ps : List (List ℕ)) → (b ≡ sep → ⊥) → All (Lacks sep) ps → All (Lacks sep) (onto b ps)
+  apart_onto : (b : ℕ) (ps : List (List ℕ)) → (b ≡ sep → ⊥) → AllByRecursion (Lacks sep) ps → AllByRecursion (Lacks sep) (onto b ps)
   apart_onto b [] ne a = tt
   apart_onto b (p ∷ ps) ne a = ((ne, a.0), a.1)
 
-  pub apart_parts : (text : List ℕ) → All (Lacks sep) (parts sep text)
+  pub apart_parts : (text : List ℕ) → AllByRecursion (Lacks sep) (parts sep text)
   apart_parts [] = (tt, tt)
   apart_parts (b ∷ bs) =
-      ⊎_elim (λ (e : b ≡ sep). subst (All (Lacks sep)) (sym (parts_sep b bs e)) (tt, apart_parts bs))
-      (λ (ne : b ≡ sep → ⊥). subst (All (Lacks sep)) (sym (parts_other b bs ne)) (apart_onto b (parts sep bs) ne (apart_parts bs)))
+      ⊎_elim (λ (e : b ≡ sep). subst (AllByRecursion (Lacks sep)) (sym (parts_sep b bs e)) (tt, apart_parts bs))
+      (λ (ne : b ≡ sep → ⊥). subst (AllByRecursion (Lacks sep)) (sym (parts_other b bs ne)) (apart_onto b (parts sep bs) ne (apart_parts bs)))
       (cases_eq b sep)
 
   -- parts that lack the separator are found again in what they make when joined
@@ -114,7 +114,7 @@ module _ (sep : ℕ) where
   parts_append [] t a = parts_sep sep t refl
   parts_append (b ∷ bs) t a = parts_other b (bs ++ (sep ∷ t)) a.0 ∙ ap (onto b) (parts_append bs t a.1)
 
-  pub parts_joined : (ps : List (List ℕ)) → 1 ≤ length ps → All (Lacks sep) ps → parts sep (joined_by sep ps) ≡ ps
+  pub parts_joined : (ps : List (List ℕ)) → 1 ≤ length ps → AllByRecursion (Lacks sep) ps → parts sep (joined_by sep ps) ≡ ps
   parts_joined [] h a = absurd (omega arith)
   parts_joined (p ∷ []) h a = parts_lone p a.0
   parts_joined (p ∷ q ∷ ps) h a = parts_append p (joined_by sep (q ∷ ps)) a.0 ∙ ap (λ t. p ∷ t) (parts_joined (q ∷ ps) (omega arith) a.1)
@@ -125,7 +125,7 @@ module _ (sep : ℕ) where
   parts_later s p (q ∷ ps) h e =
       let a : s ≡ p ++ (sep ∷ joined_by sep (q ∷ ps)) = sym (joined_parts s) ∙ ap (joined_by sep) e in
       let d : drop (suc (length p)) s ≡ joined_by sep (q ∷ ps) = ap (drop (suc (length p))) a ∙ drop_past p sep (joined_by sep (q ∷ ps)) in
-      let l : All (Lacks sep) (p ∷ q ∷ ps) = subst (All (Lacks sep)) e (apart_parts s) in
+      let l : AllByRecursion (Lacks sep) (p ∷ q ∷ ps) = subst (AllByRecursion (Lacks sep)) e (apart_parts s) in
       ap (parts sep) d ∙ parts_joined (q ∷ ps) (omega arith) l.1
 
   pub parts_law : (text : List ℕ) → PartsLaw sep text

@@ -1,6 +1,6 @@
 -- Text parted by a separator. A separator has a part on each side, so a text has one part more than it has separators.
 use Rattle.std.specs.Prelude.{◌≡◌, ℕ, ◌<◌, ◌≤◌, cond, List, [], ◌∷◌, ◌++◌, length, Some, None, Option, ◌==◌, ◌≢◌, slice_index}
-use Rattle.std.specs.List.{AllByRecursion as All}
+use Rattle.std.specs.List.{AllByRecursion}
 
 -- parts with the separator between them
 abbrev pub joined_by : ℕ → List (List ℕ) → List ℕ
@@ -10,13 +10,13 @@ joined_by sep (p ∷ q ∷ ps) = p ++ (sep ∷ joined_by sep (q ∷ ps))
 
 -- no byte of the text is the separator
 abbrev pub Lacks : ℕ → List ℕ → Type 0
-Lacks sep text = All (λ b. b ≢ sep) text
+Lacks sep text = AllByRecursion (λ b. b ≢ sep) text
 
 -- the parts of a text: joined they are the text, and none of them holds the separator
 pub record Parted (sep : ℕ) (text : List ℕ) (ps : List (List ℕ)) : Type 0 where
   pub some : 1 ≤ length ps
   pub whole : joined_by sep ps ≡ text
-  pub apart : All (Lacks sep) ps
+  pub apart : AllByRecursion (Lacks sep) ps
 
 -- a byte more at the front of the first part
 abbrev pub onto : ℕ → List (List ℕ) → List (List ℕ)

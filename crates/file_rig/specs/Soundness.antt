@@ -4,7 +4,7 @@ use Rattle.std.proofs.Common.{sym, ap, ◌∙◌, subst, arith}
 use Rattle.std.proofs.lemmas.List.{length-map}
 use Rattle.std.proofs.lemmas.Bool.{and_parts}
 use Rattle.std.specs.Option.{option_map}
-use Rattle.std.specs.List.{AllByRecursion as All}
+use Rattle.std.specs.List.{AllByRecursion}
 use Rattle.rig.specs.Laws.{Suits, SuitsIn, SoundUnit, Sound}
 use Rattle.kinds.specs.declared.kind.Kind.{Kind}
 use Rattle.kinds.specs.declared.kind.Kind.TheVariants.{Integrator, Gain, Constant}
@@ -33,7 +33,7 @@ module _ (k : Kind) where
   suits_in None e = tt
   suits_in (Some b) e = subst (λ (j : Kind). Suits (rules_of j) (held_of b)) (same_kind_lem k (kind_of b) e) (suits b)
 
-  all_suit : (ps : List (Option Body)) → all_of_kind k ps ≡ true → All (SuitsIn (rules_of k)) (map (option_map held_of) ps)
+  all_suit : (ps : List (Option Body)) → all_of_kind k ps ≡ true → AllByRecursion (SuitsIn (rules_of k)) (map (option_map held_of) ps)
   all_suit [] e = tt
   all_suit (o ∷ ps) e = let w = and_parts (of_kind k o) (all_of_kind k ps) e in (suits_in o w.0, all_suit ps w.1)
 
@@ -49,7 +49,7 @@ sound_unit x =
       kept = all_suit x.kind x.memory.places x.keeps;
     }
 
-each_sound : (xs : List FileUnit) → All SoundUnit (units_in xs)
+each_sound : (xs : List FileUnit) → AllByRecursion SoundUnit (units_in xs)
 each_sound [] = tt
 each_sound (x ∷ xs) = (sound_unit x, each_sound xs)
 

@@ -3,7 +3,7 @@ use Rattle.std.proofs.Common.{◌≡◌, ℕ, suc, ◌≤◌, Bool, true, false,
 use lib.Signed.{le_z}
 use Rattle.std.specs.Option.{option_map}
 use Rattle.std.specs.Fmt.{signed_decimal}
-use Rattle.std.specs.List.{AllByRecursion as All}
+use Rattle.std.specs.List.{AllByRecursion}
 use Rattle.std.proofs.lemmas.Int.{ints}
 use Rattle.std.proofs.lemmas.Bool.{eqb-true, eq-eqb, le-leb, leb-true, and_parts, and_from, cond-true}
 use Rattle.fields.specs.Parts.{joined_by, Lacks}
@@ -161,7 +161,7 @@ letter_plain kinds.Integrator = search rules
 letter_plain kinds.Gain = search rules
 letter_plain kinds.Constant = search rules
 
-after_plain : (d : Design) → design_fault d ≡ None → Signals d → All Plain (after d)
+after_plain : (d : Design) → design_fault d ≡ None → Signals d → AllByRecursion Plain (after d)
 after_plain (Integrator x lo hi m) e s =
     let h = leb-true m 1000000 (and_parts (leb 1 m) (leb m 1000000) (none_left (leb 1 m && leb m 1000000) _ _ e).0).1 in
     (number_plain x s.0, (number_plain lo s.1, (number_plain hi s.2, (decimal_plain m (omega arith), tt))))
@@ -172,7 +172,7 @@ after_plain (Gain a b c) e s =
 after_plain (Constant v) e s = (number_plain v s, tt)
 
 module _ (known : List (List ℕ)) (u : UnitSaid) (proper : ProperUnit known u) where
-  unit_plain : All Plain (said u)
+  unit_plain : AllByRecursion Plain (said u)
   unit_plain = (letter_plain (kind_as u.design), (name_plain u.name proper.name, after_plain u.design proper.ranges proper.signals))
 
   pub unit_feedless : Lacks 10 (unit_text u)
@@ -237,7 +237,7 @@ end_proper known name u port n e h =
     let s = named_is known name u e in record { name = ap is_name s ∙ n; unit = ap (unit_named known) s ∙ e; within = h }
 
 module _ (known : List (List ℕ)) (w : Wire) (proper : ProperWire known w) where
-  wire_plain : All Plain (wire_fields known w)
+  wire_plain : AllByRecursion Plain (wire_fields known w)
   wire_plain =
       let f = proper.from in
       let t = proper.to in
@@ -292,7 +292,7 @@ wire_proper known text w e = (wire_only known text w e).1
 
 -- ---- the first line of a units file
 
-cap_plain : (n : ℕ) → ProperCap n → All Plain (cap_fields n)
+cap_plain : (n : ℕ) → ProperCap n → AllByRecursion Plain (cap_fields n)
 cap_plain n proper =
     (search rules, (search rules, (decimal_plain n (omega arith), tt)))
 

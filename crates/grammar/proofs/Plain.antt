@@ -1,7 +1,7 @@
 -- Fields without commas and line feeds, and lists of fields by what is read at each place.
 use Rattle.std.proofs.Common.{◌≡◌, ℕ, suc, ◌≤◌, true, ◌&&◌, leb, List, [], ◌∷◌, length, get_or, ℤ, pos, decimal, sym, refl, ap, ◌∙◌, subst, ⊎_elim, arith}
 use Rattle.std.specs.Fmt.{signed_decimal}
-use Rattle.std.specs.List.{AllByRecursion as All}
+use Rattle.std.specs.List.{AllByRecursion}
 use Rattle.std.proofs.ByRecursion.{All-append, All-from_get_or, All-weaker}
 use Rattle.std.proofs.lemmas.Int.{ints}
 use Rattle.std.proofs.lemmas.Bool.{and_parts, or_cases, leb-true}
@@ -14,7 +14,7 @@ use Rattle.lines.specs.Fields.{fields}
 
 -- no byte of the text is the comma (44) or one below it
 abbrev pub Plain : List ℕ → Type 0
-Plain text = All (λ b. 45 ≤ b) text
+Plain text = AllByRecursion (λ b. 45 ≤ b) text
 
 name_byte_plain : (b : ℕ) → is_name_byte b ≡ true → 45 ≤ b
 name_byte_plain b e =
@@ -36,16 +36,16 @@ pub decimal_plain : (n : ℕ) → n ≤ 2147483647 → Plain (decimal n)
 decimal_plain n h = number_plain (pos n) (record { above = omega (arith, ints); below = omega (arith, ints) })
 
 -- plain fields are found again in what they make when joined, and this has no line feed
-pub fields_joined : (ps : List (List ℕ)) → 1 ≤ length ps → All Plain ps → fields (joined_by 44 ps) ≡ ps
+pub fields_joined : (ps : List (List ℕ)) → 1 ≤ length ps → AllByRecursion Plain ps → fields (joined_by 44 ps) ≡ ps
 fields_joined ps some a = parts_joined 44 ps some (All-weaker Plain (Lacks 44) (All-weaker (λ b. 45 ≤ b) (λ b. b ≡ 44 → ⊥) (λ b h e. omega arith)) ps a)
 
-pub joined_feedless : (ps : List (List ℕ)) → All Plain ps → Lacks 10 (joined_by 44 ps)
+pub joined_feedless : (ps : List (List ℕ)) → AllByRecursion Plain ps → Lacks 10 (joined_by 44 ps)
 joined_feedless ps a = All-weaker (λ b. 44 ≤ b) (λ b. b ≡ 10 → ⊥) (λ b h e. omega arith) (joined_by 44 ps) (high ps a)
   where
-    wide : (p : List ℕ) → Plain p → All (λ b. 44 ≤ b) p
+    wide : (p : List ℕ) → Plain p → AllByRecursion (λ b. 44 ≤ b) p
     wide = All-weaker (λ b. 45 ≤ b) (λ b. 44 ≤ b) (λ b h. omega arith)
 
-    high : (ps : List (List ℕ)) → All Plain ps → All (λ b. 44 ≤ b) (joined_by 44 ps)
+    high : (ps : List (List ℕ)) → AllByRecursion Plain ps → AllByRecursion (λ b. 44 ≤ b) (joined_by 44 ps)
     high [] a = tt
     high (p ∷ []) a = wide p a.0
     high (p ∷ q ∷ ps) a = All-append (λ b. 44 ≤ b) p (44 ∷ joined_by 44 (q ∷ ps)) (wide p a.0) (omega arith, high (q ∷ ps) a.1)
@@ -75,7 +75,7 @@ all_reads [] = tt
 all_reads (p ∷ ps) = (refl, reads_later p ps 0 ps (all_reads ps))
 
 -- the fields of what plain fields make when joined
-pub reads_joined : (text : List ℕ) (ps : List (List ℕ)) → joined_by 44 ps ≡ text → 1 ≤ length ps → All Plain ps → (length (fields text) ≡ length ps) × Reads (fields text) 0 ps
+pub reads_joined : (text : List ℕ) (ps : List (List ℕ)) → joined_by 44 ps ≡ text → 1 ≤ length ps → AllByRecursion Plain ps → (length (fields text) ≡ length ps) × Reads (fields text) 0 ps
 reads_joined text ps e some a =
     let f : fields text ≡ ps = sym (ap fields e) ∙ fields_joined ps some a in
     (ap length f, subst (λ qs. Reads qs 0 ps) (sym f) (all_reads ps))

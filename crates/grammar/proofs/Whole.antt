@@ -1,6 +1,6 @@
 -- A file is read exactly when it is the one text of what it says.
 use Rattle.std.proofs.Common.{◌≡◌, ℕ, ◌+◌, ◌≤◌, eqb, List, [], ◌∷◌, ◌++◌, map, length, Some, None, Ok, Err, codes, Option, Result, sym, refl, ap, ◌∙◌, subst, arith, rules}
-use Rattle.std.specs.List.{AllByRecursion as All}
+use Rattle.std.specs.List.{AllByRecursion}
 use Rattle.std.proofs.lemmas.List.{append-nil, append_assoc, nil_from_length, length-append}
 use Rattle.std.proofs.lemmas.Bool.{eqb-true}
 use Rattle.fields.specs.Parts.{parts, joined_by, Lacks}
@@ -27,7 +27,7 @@ ended ts = ts ++ ([] ∷ [])
 some_ended : (ts : List (List ℕ)) → 1 ≤ length (ended ts)
 some_ended ts = simp length-append (omega arith)
 
-parts_lines : (ts : List (List ℕ)) → All (Lacks 10) ts → parts 10 (lines_text ts) ≡ ended ts
+parts_lines : (ts : List (List ℕ)) → AllByRecursion (Lacks 10) ts → parts 10 (lines_text ts) ≡ ended ts
 parts_lines [] a = refl
 parts_lines (t ∷ ts) a = parts_append 10 t (lines_text ts) a.0 ∙ ap (λ ps. t ∷ ps) (parts_lines ts a.1)
 
@@ -60,7 +60,7 @@ module _ {X R : Type 0} (head : List ℕ → Option X) (body : X → List (List 
   headed_on first [] x h e = absurd (omega arith)
   headed_on first (next ∷ later) x h e = ap (λ o. after_first o (λ y. body y (next ∷ later))) e
 
-  first_on : (first : List ℕ) (ts : List (List ℕ)) (x : X) → All (Lacks 10) (first ∷ ts) → head first ≡ Some x
+  first_on : (first : List ℕ) (ts : List (List ℕ)) (x : X) → AllByRecursion (Lacks 10) (first ∷ ts) → head first ≡ Some x
       → headed head body (parts 10 (lines_text (first ∷ ts))) ≡ body x (ended ts)
   first_on first ts x a e = ap (headed head body) (parts_lines (first ∷ ts) a) ∙ headed_on first (ended ts) x (some_ended ts) e
 
@@ -111,7 +111,7 @@ module _ {T : Type 0} (judge : List T → List ℕ → Result T LineFault) (text
       ∙ (ap (λ o. onward l o (λ y. lines_from judge (l + 1) (before ++ y ∷ []) (ended (map text_of new)))) (every before x p.0)
       ∙ (lines_on every new (l + 1) (before ++ x ∷ []) p.1 ∙ ap Ok (append_assoc before (x ∷ []) new)))
 
-  lines_feedless : ((before : List T) (x : T) → P before x → Lacks 10 (text_of x)) → (before new : List T) → InTurn P before new → All (Lacks 10) (map text_of new)
+  lines_feedless : ((before : List T) (x : T) → P before x → Lacks 10 (text_of x)) → (before new : List T) → InTurn P before new → AllByRecursion (Lacks 10) (map text_of new)
   lines_feedless lacks before [] p = tt
   lines_feedless lacks before (x ∷ new) p = (lacks before x p.0, lines_feedless lacks (before ++ x ∷ []) new p.1)
 

@@ -1,6 +1,6 @@
 -- The three kinds obey the laws of a rig.
 use Rattle.std.proofs.Common.{◌≡◌, ℕ, zero, suc, ◌/◌, ◌<◌, ◌≤◌, min, List, [], ◌∷◌, length, get_or, ℤ, pos, negsuc, ◌+ℤ◌, ◌*ℤ◌, Some, sym, refl, ap, ◌∙◌, arith}
-use Rattle.std.specs.List.{slice_get, AllByRecursion as All}
+use Rattle.std.specs.List.{slice_get, AllByRecursion}
 use Rattle.rig.specs.Units.{Rules, item}
 use Rattle.rig.specs.Laws.{AgreeOn, ReadsMasked, Suits}
 use Rattle.kinds.specs.declared.kind.Kind.{Kind}
@@ -20,7 +20,7 @@ outputs_few kinds.Integrator = omega arith
 outputs_few kinds.Gain = omega arith
 outputs_few kinds.Constant = omega arith
 
-pub masks_small : (k : Kind) → All (λ m. m < 256) (rules_of k).masks
+pub masks_small : (k : Kind) → AllByRecursion (λ m. m < 256) (rules_of k).masks
 masks_small kinds.Integrator = (omega arith, tt)
 masks_small kinds.Gain = (omega arith, tt)
 masks_small kinds.Constant = (omega arith, tt)

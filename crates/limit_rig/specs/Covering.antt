@@ -1,7 +1,7 @@
 -- A rig put under a limit and taken back, and the laws of a rig under it.
 use Rattle.std.specs.Prelude.{◌≡◌, ℕ, zero, suc, ◌≤◌, Bool, true, false, List, [], ◌∷◌, map, length, replicate, Some, None, Option, slice_index_or, refl}
 use Rattle.std.proofs.Common.{sym, ap, ◌∙◌, subst, arith}
-use Rattle.std.specs.List.{slice_get, AllByRecursion as All}
+use Rattle.std.specs.List.{slice_get, AllByRecursion}
 use Rattle.std.specs.Option.{option_map}
 use Rattle.rig.specs.Units.{Rules, Held, RigUnit}
 use Rattle.rig.specs.Laws.{Suits, SuitsIn, SoundUnit, Sound}
@@ -39,7 +39,7 @@ module _ {S : Type 0} (m : ℕ) (k : Rules S) where
   suits_flagged true o s = tt
   suits_flagged false o s = suits_under o s
 
-  all_suit : (ps : List (Option (Held S))) → All (SuitsIn k) ps → All (SuitsIn (rules_under m k)) ps
+  all_suit : (ps : List (Option (Held S))) → AllByRecursion (SuitsIn k) ps → AllByRecursion (SuitsIn (rules_under m k)) ps
   all_suit [] a = tt
   all_suit (o ∷ ps) a = (suits_under o a.0, all_suit ps a.1)
 
@@ -55,7 +55,7 @@ sound_unit m f x s =
       kept = all_suit m x.rules x.places s.kept;
     }
 
-each_sound : {S : Type 0} (m : ℕ) (fs : List Bool) (us : List (RigUnit S)) → All SoundUnit us → All SoundUnit (units_under m fs us)
+each_sound : {S : Type 0} (m : ℕ) (fs : List Bool) (us : List (RigUnit S)) → AllByRecursion SoundUnit us → AllByRecursion SoundUnit (units_under m fs us)
 each_sound m [] [] a = tt
 each_sound m (f ∷ fs) [] a = tt
 each_sound m [] (x ∷ us) a = (sound_unit m false x a.0, each_sound m [] us a.1)

@@ -1,7 +1,7 @@
 -- A call of one of two rigs, as a call of the pair.
 use Rattle.std.specs.Prelude.{◌≡◌, ℕ, zero, suc, ◌+◌, ◌<◌, ◌≤◌, min, List, [], ◌∷◌, ◌++◌, length, take, Some, None, Ok, Err, Option, Result, slice_set, refl}
 use Rattle.std.proofs.Common.{sym, ap, ◌∙◌, subst, arith, length-append}
-use Rattle.std.specs.List.{slice_get, AllByRecursion as All}
+use Rattle.std.specs.List.{slice_get, AllByRecursion}
 use Rattle.std.proofs.lemmas.List.{length-take}
 use Rattle.rig.specs.declared.cause.Cause.{Cause}
 use Rattle.rig.specs.declared.cause.Cause.TheVariants.{NoSuch}
@@ -116,7 +116,7 @@ pub length_joined : {S : Type 0} (xs ys : List (RigUnit S)) → length (joined x
 length_joined xs ys = length-take 16 (xs ++ ys) ∙ ap (min 16) (length-append xs ys)
 
 -- a pair obeys the laws of a rig
-all_take : {X : Type 0} (P : X → Type 0) (n : ℕ) (xs ys : List X) → All P xs → All P ys → All P (take n (xs ++ ys))
+all_take : {X : Type 0} (P : X → Type 0) (n : ℕ) (xs ys : List X) → AllByRecursion P xs → AllByRecursion P ys → AllByRecursion P (take n (xs ++ ys))
 all_take P zero [] [] a b = tt
 all_take P zero [] (y ∷ ys) a b = tt
 all_take P zero (x ∷ xs) ys a b = tt

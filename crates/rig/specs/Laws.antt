@@ -1,6 +1,6 @@
 -- What every rig owes of its units at all times.
 use Rattle.std.specs.Prelude.{◌≡◌, ℕ, ◌/◌, ◌%◌, ◌^◌, ◌<◌, ◌≤◌, List, length, ℤ, Some, None, Option, slice_index}
-use Rattle.std.specs.List.{slice_get, AllByRecursion as All}
+use Rattle.std.specs.List.{slice_get, AllByRecursion}
 use Rattle.rig.specs.Units.{Rules, Held, RigUnit}
 
 -- bit i of a mask: 0 or 1
@@ -28,12 +28,12 @@ SuitsIn k (Some a) = Suits k a
 pub record SoundUnit {S : Type 0} (x : RigUnit S) : Type 0 where
   pub inputs : x.rules.inputs ≤ 8
   pub outputs : length x.rules.masks ≤ 8
-  pub masks : All (λ m. m < 256) x.rules.masks
+  pub masks : AllByRecursion (λ m. m < 256) x.rules.masks
   pub reads : ReadsMasked x.rules
   pub four : length x.places ≡ 4
   pub held : SuitsIn x.rules x.held
-  pub kept : All (SuitsIn x.rules) x.places
+  pub kept : AllByRecursion (SuitsIn x.rules) x.places
 
 pub record Sound {S : Type 0} (us : List (RigUnit S)) : Type 0 where
   pub few : length us ≤ 16
-  pub each : All SoundUnit us
+  pub each : AllByRecursion SoundUnit us

@@ -3,7 +3,7 @@ use Rattle.std.specs.Prelude.{◌≡◌, ℕ, ◌<◌, ◌≤◌, List, [], ◌�
 use Rattle.std.proofs.Common.{◌∙◌, arith}
 use Rattle.std.proofs.lemmas.List.{length-map}
 use Rattle.std.specs.Option.{option_map}
-use Rattle.std.specs.List.{AllByRecursion as All}
+use Rattle.std.specs.List.{AllByRecursion}
 use Rattle.rig.specs.Laws.{Suits, SuitsIn, SoundUnit, Sound}
 use Rattle.memory.specs.declared.store.Memory.{Memory}
 use Rattle.trip_rig.specs.declared.trip.Segment.{Segment}
@@ -17,7 +17,7 @@ module _ (segments : List Segment) where
   suits_in None = tt
   suits_in (Some p) = record { signals = refl; bound = λ xs l. p.few }
 
-  all_suit : (ps : List (Option Position)) → All (SuitsIn trip) (map (option_map (held_at segments)) ps)
+  all_suit : (ps : List (Option Position)) → AllByRecursion (SuitsIn trip) (map (option_map (held_at segments)) ps)
   all_suit [] = tt
   all_suit (o ∷ ps) = (suits_in o, all_suit ps)
 
