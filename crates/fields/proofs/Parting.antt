@@ -1,9 +1,9 @@
 -- The parts of a text: what a loop over its bytes needs, and that they are the parts and no other list is.
-use Rattle.std.proofs.Common.{◌≡◌, ℕ, zero, suc, ◌+◌, ◌-◌, ◌<◌, ◌≤◌, Bool, true, false, cond, eqb, ◌⊎◌, List, [], ◌∷◌, ◌++◌, length, get_or, take, drop, Some, None, Option, sym, refl, ap, ◌∙◌, subst, inl, inr, ⊎_elim, add-one, arith}
+use Rattle.std.proofs.Common.{◌≡◌, ℕ, zero, suc, ◌+◌, ◌-◌, ◌<◌, ◌≤◌, true, false, cond, eqb, List, [], ◌∷◌, ◌++◌, length, get_or, take, drop, Some, None, sym, refl, ap, ◌∙◌, subst, ⊎_elim, add-one, arith}
 use Rattle.std.proofs.lemmas.List.{at_drop_more, take_rest}
 use Rattle.std.proofs.lemmas.Bool.{eq-eqb, ne_eqb, cases_eq}
 use Rattle.std.specs.List.{AllByRecursion}
-use Rattle.fields.specs.Parts.{parts, onto, joined_by, Lacks, Parted, PartsLaw, FirstAt}
+use Rattle.fields.specs.Parts.{parts, onto, joined_by, Lacks, PartsLaw, FirstAt}
 
 drop_past : (p : List ℕ) (b : ℕ) (t : List ℕ) → drop (suc (length p)) (p ++ (b ∷ t)) ≡ t
 drop_past [] b t = refl

@@ -1,10 +1,10 @@
 -- The one record that the table lends, described as a unit of the rig.
-use Rattle.std.proofs.Common.{◌≡◌, ℕ, ◌<◌, List, length, get_or, Some, Ok, Err, Result, sym, refl, ap, ◌∙◌, subst}
+use Rattle.std.proofs.Common.{◌≡◌, ℕ, ◌<◌, List, length, get_or, Some, Ok, Err, Result, sym, ap, ◌∙◌, subst}
 use Rattle.std.proofs.lemmas.Option.{slice_get-get_or}
 use Rattle.rig.specs.declared.cause.Cause.{Cause}
 use Rattle.rig.specs.declared.cause.RigFault.{RigFault}
 use Rattle.rig.specs.declared.cause.Target.TheVariants.{Whole}
-use Rattle.rig.specs.Calls.{answer_of, blamed}
+use Rattle.rig.specs.Calls.{blamed}
 use Rattle.rig.proofs.Calling.{answer_there}
 use Rattle.kinds.specs.declared.design.Design.{Design}
 use Rattle.file_rig.specs.declared.unit.FileUnit.{FileUnit}

@@ -1,5 +1,5 @@
 -- What a unit of a file rig is and how it stands: the design by which it would be made now.
-use Rattle.std.specs.Prelude.{◌≡◌, ℕ, List, ℤ, Some, None, Ok, Err, Option, Result}
+use Rattle.std.specs.Prelude.{◌≡◌, ℕ, List, ℤ, Some, Ok, Err, Result}
 use Rattle.std.specs.List.{slice_get}
 use Rattle.std.specs.Option.{option_map}
 use Rattle.rig.specs.declared.cause.Cause.{Cause}

@@ -1,11 +1,11 @@
 -- The line at the cursor, by the first line feed of what is left of the file.
-use Rattle.std.proofs.Common.{◌≡◌, ℕ, suc, ◌+◌, ◌-◌, ◌<◌, ◌≤◌, cond, eqb, List, [], ◌∷◌, length, take, drop, Some, None, Ok, Err, sym, refl, ap, ◌∙◌, arith}
+use Rattle.std.proofs.Common.{◌≡◌, ℕ, suc, ◌+◌, ◌-◌, ◌≤◌, cond, List, [], ◌∷◌, length, take, drop, Some, None, Ok, Err, sym, refl, ap, ◌∙◌, arith}
 use Rattle.std.proofs.lemmas.List.{take_rest, nil_from_length, length-take-le, length-drop}
 use Rattle.std.proofs.lemmas.Bool.{ne_eqb}
 use Rattle.fields.specs.Parts.{parts, FirstAt}
 use Rattle.fields.proofs.Parting.{parts_first, parts_none, some_part}
 use Rattle.lines.specs.declared.fault.LineFault.TheVariants.{Letter}
-use Rattle.files.specs.Positions.{Position, ahead, front_of, Fits}
+use Rattle.files.specs.Positions.{Position, ahead, front_of}
 
 pub front_line : (text : List ℕ) (later : List (List ℕ)) → 1 ≤ length later → front_of (text ∷ later) ≡ Some (Ok text)
 front_line text [] h = absurd (omega arith)

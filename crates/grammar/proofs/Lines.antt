@@ -17,7 +17,7 @@ use Rattle.names.specs.Naming.{is_name}
 use Rattle.lines.specs.declared.fault.LineFault.{LineFault}
 use Rattle.lines.specs.declared.fault.LineFault.TheVariants.{Letter, Disagree}
 use Rattle.lines.specs.Known.{same_text, unit_named}
-use Rattle.lines.specs.Fields.{fields, field, within}
+use Rattle.lines.specs.Fields.{fields, field}
 use Rattle.lines.specs.UnitLines.{UnitSaid, unit_line, unit_of_kind, with_name, design_at, field_count, kind_of_letter}
 use Rattle.lines.specs.WireLines.{Wire, wire_line, wire_at, wire_by_letter, wire_between}
 use Rattle.lines.specs.Headers.{cap_of}

@@ -1,7 +1,7 @@
 -- The three kinds obey the laws of a rig.
-use Rattle.std.proofs.Common.{◌≡◌, ℕ, zero, suc, ◌/◌, ◌<◌, ◌≤◌, min, List, [], ◌∷◌, length, get_or, ℤ, pos, negsuc, ◌+ℤ◌, ◌*ℤ◌, Some, sym, refl, ap, ◌∙◌, arith}
-use Rattle.std.specs.List.{slice_get, AllByRecursion}
-use Rattle.rig.specs.Units.{Rules, item}
+use Rattle.std.proofs.Common.{◌≡◌, ℕ, zero, suc, ◌<◌, ◌≤◌, List, [], ◌∷◌, length, ℤ, pos, negsuc, ◌+ℤ◌, ◌*ℤ◌, Some, refl, ap, ◌∙◌, arith}
+use Rattle.std.specs.List.{AllByRecursion}
+use Rattle.rig.specs.Units.{item}
 use Rattle.rig.specs.Laws.{AgreeOn, ReadsMasked, Suits}
 use Rattle.kinds.specs.declared.kind.Kind.{Kind}
 use Rattle.kinds.specs.declared.kind.Kind.TheVariants as kinds

@@ -1,5 +1,5 @@
 -- Which designs make a unit, and what a new unit holds.
-use Rattle.std.specs.Prelude.{◌≡◌, ℕ, Bool, cond, ◌&&◌, [], ◌∷◌, ℤ, pos, negsuc, Some, None, Ok, Err, Option, Result, int_le, nat_le}
+use Rattle.std.specs.Prelude.{◌≡◌, Bool, cond, ◌&&◌, [], ◌∷◌, ℤ, pos, negsuc, Some, None, Ok, Err, Option, Result, int_le, nat_le}
 use Rattle.rig.specs.Units.{Held}
 use Rattle.kinds.specs.declared.kind.Kind.{Kind}
 use Rattle.kinds.specs.declared.kind.Kind.TheVariants as kinds
@@ -9,9 +9,6 @@ use Rattle.kinds.specs.declared.design.DesignFault.{DesignFault}
 use Rattle.kinds.specs.declared.design.DesignFault.TheVariants.{StepLimit, FactorA, FactorB, Outside}
 use Rattle.kinds.specs.declared.body.Body.{Body}
 use Rattle.kinds.specs.declared.body.Body.TheVariants as bodies
-use Rattle.kinds.specs.declared.integrator.Integrator as integrators
-use Rattle.kinds.specs.declared.gain.Gain as gains
-use Rattle.kinds.specs.declared.constant.Constant as constants
 use Rattle.kinds.specs.Contents.{kind_of, held_of}
 
 -- a factor of a gain: −1,000 to 1,000

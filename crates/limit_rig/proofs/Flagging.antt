@@ -1,5 +1,5 @@
 -- Calls of a unit that is loose by its flag, and the status of any unit.
-use Rattle.std.proofs.Common.{◌≡◌, ℕ, Bool, true, false, cond, not, ◌&&◌, ◌||◌, ltb, leb, List, [], ◌∷◌, length, get_or, set, is_some, Some, None, Ok, Err, Option, Result, sym, refl, ap, ◌∙◌, subst, ⊎_elim, arith}
+use Rattle.std.proofs.Common.{◌≡◌, ℕ, Bool, true, false, cond, not, ◌&&◌, ◌||◌, ltb, leb, List, length, get_or, set, is_some, Some, None, Ok, Err, Option, Result, sym, refl, ap, ◌∙◌, ⊎_elim, arith}
 use Rattle.std.specs.List.{slice_get}
 use Rattle.std.specs.Option.{option_map}
 use Rattle.std.proofs.lemmas.Bool.{lt-ltb, le-ltb, cases_lt}
@@ -9,7 +9,7 @@ use Rattle.rig.specs.declared.cause.Cause.TheVariants.{NoSuch, StepRange, Loose}
 use Rattle.rig.specs.declared.cause.Target.TheVariants.{Whole}
 use Rattle.rig.specs.declared.cause.RigFault.{RigFault}
 use Rattle.rig.specs.declared.shape.Status.{Status}
-use Rattle.rig.specs.Units.{Held, RigUnit}
+use Rattle.rig.specs.Units.{RigUnit}
 use Rattle.rig.specs.Calls.{Call, Called, answer_of, answer_in, blamed, after_in, unit_after, put, get, step, save, status, status_of}
 use Rattle.rig.proofs.Calling.{set_nth, nth_some}
 use Rattle.limit_rig.specs.Limits.{unit_under, units_under, input_in, output_in, loose_if, step_cause}

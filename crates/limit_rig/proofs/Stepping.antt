@@ -1,7 +1,6 @@
 -- A step of a unit under a limit, by how it stands to the limit.
-use Rattle.std.proofs.Common.{◌≡◌, ℕ, ◌<◌, ◌≤◌, min, Bool, true, false, cond, ◌&&◌, ltb, leb, ◌⊎◌, List, Some, None, Ok, Err, Option, Result, sym, refl, ap, ◌∙◌, inl, inr, ⊎_elim, arith}
+use Rattle.std.proofs.Common.{◌≡◌, ℕ, ◌<◌, ◌≤◌, min, Bool, true, false, cond, ◌&&◌, ltb, leb, List, Some, None, Ok, Err, Option, sym, refl, ap, ◌∙◌, ⊎_elim, arith}
 use Rattle.std.proofs.lemmas.Bool.{le-leb, lt-leb, ltb-true, ltb-false, leb-true, leb-false, and_right, and_parts, and_cases, cases_lt}
-use Rattle.rig.specs.declared.cause.Cause.{Cause}
 use Rattle.rig.specs.declared.cause.Cause.TheVariants.{StepRange}
 use Rattle.rig.specs.Units.{Rules, Held, RigUnit, bound_of, stepped, moved, loosed}
 use Rattle.rig.specs.Calls.{step, in_place}

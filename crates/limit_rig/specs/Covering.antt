@@ -1,10 +1,10 @@
 -- A rig put under a limit and taken back, and the laws of a rig under it.
-use Rattle.std.specs.Prelude.{◌≡◌, ℕ, zero, suc, ◌≤◌, Bool, true, false, List, [], ◌∷◌, map, length, replicate, Some, None, Option, slice_index_or, refl}
+use Rattle.std.specs.Prelude.{◌≡◌, ℕ, zero, suc, Bool, true, false, List, [], ◌∷◌, map, replicate, Some, None, Option, slice_index_or, refl}
 use Rattle.std.proofs.Common.{sym, ap, ◌∙◌, subst, arith}
 use Rattle.std.specs.List.{slice_get, AllByRecursion}
 use Rattle.std.specs.Option.{option_map}
 use Rattle.rig.specs.Units.{Rules, Held, RigUnit}
-use Rattle.rig.specs.Laws.{Suits, SuitsIn, SoundUnit, Sound}
+use Rattle.rig.specs.Laws.{SuitsIn, SoundUnit, Sound}
 use Rattle.limit_rig.specs.Limits.{rules_under, unit_under, units_under, UnitBeneath, Beneath}
 use Rattle.limit_rig.specs.Limiting.{length_under, nth_under}
 

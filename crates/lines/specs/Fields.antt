@@ -1,5 +1,5 @@
 -- The fields of a line, judged one by one from the left: each is taken, or the line is refused for it.
-use Rattle.std.specs.Prelude.{ℕ, ◌-◌, cond, ◌&&◌, List, [], length, ℤ, Some, None, Ok, Err, Option, Result, ◌==◌, int_le, nat_lt, slice_index_or}
+use Rattle.std.specs.Prelude.{ℕ, ◌-◌, cond, ◌&&◌, List, [], length, ℤ, Some, None, Err, Option, Result, ◌==◌, int_le, nat_lt, slice_index_or}
 use Rattle.fields.specs.Parts.{parts}
 use Rattle.names.specs.Naming.{is_name}
 use Rattle.numerals.specs.Numbers.{number_of}

@@ -1,5 +1,5 @@
 -- What a line of a units file says.
-use Rattle.std.specs.Prelude.{ℕ, cond, ◌&&◌, List, [], ◌∷◌, ℤ, pos, negsuc, Some, None, Ok, Err, Option, Result, ◌==◌, int_le, unsigned_abs}
+use Rattle.std.specs.Prelude.{ℕ, cond, ◌&&◌, List, [], ◌∷◌, pos, negsuc, Some, None, Ok, Err, Option, Result, ◌==◌, int_le, unsigned_abs}
 use Rattle.kinds.specs.declared.kind.Kind.{Kind}
 use Rattle.kinds.specs.declared.kind.Kind.TheVariants as kinds
 use Rattle.kinds.specs.declared.design.Design.{Design}

@@ -1,5 +1,5 @@
 -- What a line of a wires file says, where units have these names.
-use Rattle.std.specs.Prelude.{◌≡◌, ℕ, cond, List, [], ◌∷◌, ℤ, pos, Some, None, Ok, Err, Option, Result, ◌==◌, unsigned_abs}
+use Rattle.std.specs.Prelude.{◌≡◌, ℕ, cond, List, [], ◌∷◌, ℤ, pos, Some, Ok, Err, Result, ◌==◌, unsigned_abs}
 use Rattle.wiring.specs.declared.port.Port.{Port}
 use Rattle.lines.specs.declared.fault.LineFault.{LineFault}
 use Rattle.lines.specs.declared.fault.LineFault.TheVariants.{Letter}

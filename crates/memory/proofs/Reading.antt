@@ -1,10 +1,10 @@
 -- A call of a memory, as a call of the unit that it makes.
-use Rattle.std.proofs.Common.{◌≡◌, ℕ, zero, suc, Bool, cond, ltb, List, [], ◌∷◌, map, get_or, set, is_some, is_ok, Some, None, Ok, Err, Option, Result, sym, refl, ap, ◌∙◌}
+use Rattle.std.proofs.Common.{◌≡◌, ℕ, zero, suc, cond, ltb, List, [], ◌∷◌, map, get_or, set, is_some, is_ok, Some, None, Ok, Err, Option, Result, sym, refl, ap, ◌∙◌}
 use Rattle.std.proofs.lemmas.List.{map-set}
 use Rattle.std.specs.Option.{option_map}
 use Rattle.rig.specs.declared.cause.Cause.{Cause}
 use Rattle.rig.specs.declared.cause.Cause.TheVariants.{NoSuch}
-use Rattle.rig.specs.Units.{Rules, Held, RigUnit}
+use Rattle.rig.specs.Units.{Rules, Held}
 use Rattle.rig.specs.Calls.{UnitCalled, require, if_empty, if_filled, save_answer, back_answer, filled_at, status_of, unit_after, save, restore, free}
 use Rattle.memory.specs.declared.store.Memory.{Memory}
 use Rattle.memory.specs.Kept.{Saved, Restored, Freed, unit_with, unit_from}

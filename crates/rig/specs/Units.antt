@@ -1,5 +1,5 @@
 -- What a unit is and holds, and what may become of it. A rig is a list of units, numbered from 0.
-use Rattle.std.specs.Prelude.{ℕ, cond, List, [], ◌∷◌, set, ℤ, pos, Some, None, Option, nat_le, slice_index_or, slice_set}
+use Rattle.std.specs.Prelude.{ℕ, cond, List, [], ◌∷◌, ℤ, pos, Some, None, Option, nat_le, slice_index_or, slice_set}
 
 -- The rules of a unit, which never change: how many inputs it has, the mask of each output, and
 -- OUT of an output, BOUND and NEXT by a step. A state is a list of whole numbers, parameters included.

@@ -1,5 +1,5 @@
 -- How a caller's list is read as pairs: up to n of them, ending before a half pair and before one whose ticks are not 1 to 1,000,000.
-use Rattle.std.specs.Prelude.{◌≡◌, ℕ, zero, suc, Bool, cond, ◌&&◌, List, [], ◌∷◌, ℤ, pos, int_le}
+use Rattle.std.specs.Prelude.{ℕ, zero, suc, Bool, cond, ◌&&◌, List, [], ◌∷◌, ℤ, pos, int_le}
 use Rattle.rig.specs.Units.{RigUnit, fresh_unit}
 use Rattle.trip_rig.specs.Playing.{trip}
 

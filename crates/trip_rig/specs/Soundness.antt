@@ -1,10 +1,10 @@
 -- A trip obeys the laws of a rig.
-use Rattle.std.specs.Prelude.{◌≡◌, ℕ, ◌<◌, ◌≤◌, List, [], ◌∷◌, map, length, Some, None, vec_items, Option, refl}
+use Rattle.std.specs.Prelude.{List, [], ◌∷◌, map, Some, None, vec_items, Option, refl}
 use Rattle.std.proofs.Common.{◌∙◌, arith}
 use Rattle.std.proofs.lemmas.List.{length-map}
 use Rattle.std.specs.Option.{option_map}
 use Rattle.std.specs.List.{AllByRecursion}
-use Rattle.rig.specs.Laws.{Suits, SuitsIn, SoundUnit, Sound}
+use Rattle.rig.specs.Laws.{SuitsIn, SoundUnit, Sound}
 use Rattle.memory.specs.declared.store.Memory.{Memory}
 use Rattle.trip_rig.specs.declared.trip.Segment.{Segment}
 use Rattle.trip_rig.specs.declared.trip.Position.{Position}

@@ -2,7 +2,7 @@ use mathlib.Core.Path.{◌≡◌, refl}
 use Prim.Native.Nat.{ℕ, ◌≤◌, min}
 use native.Mathlib.Omega.{arith}
 use Rattle.kinds.proofs.Stops.{longest_step}
-use Rattle.facts.specs.Worked.{WorkedCases, Emptied, Filled}
+use Rattle.facts.specs.Worked.{WorkedCases}
 use Rattle.facts.proofs.cases_hold.Goals as goal
 
 none : (m : ℕ) → min m 0 ≡ 0

@@ -1,4 +1,4 @@
-use Rattle.std.proofs.Common.{length, drop, arith}
+use Rattle.std.proofs.Common.{length, arith}
 use Rattle.std.proofs.lemmas.List.{at_drop_all}
 use Rattle.fields.specs.Parts.{parts}
 use Rattle.fields.proofs.Parting.{count_sep, count_other, parts_law}

@@ -1,4 +1,4 @@
-use Rattle.std.proofs.Common.{◌≡◌, ℕ, ◌+◌, ◌-◌, [], get_or, sym, ap, ◌∙◌, add-zero, arith}
+use Rattle.std.proofs.Common.{◌≡◌, ◌+◌, ◌-◌, [], get_or, ap, ◌∙◌, arith}
 use Rattle.fields.specs.Parts.{parts}
 use Rattle.fields.proofs.Parting.{passed_more}
 use Rattle.fields.proofs.parts.from_part.Goals as goal

@@ -1,4 +1,4 @@
-use Rattle.std.proofs.Common.{◌≡◌, [], ◌∷◌, ◌++◌, length, Ok, Err, sym, refl, ap, ◌∙◌, subst, rules}
+use Rattle.std.proofs.Common.{◌≡◌, [], ◌∷◌, ◌++◌, length, Err, sym, ap, ◌∙◌, rules}
 use Rattle.file_rig.specs.Table.{names_of}
 use Rattle.lines.specs.Headers.{wires_head}
 use Rattle.files.specs.Positions.{position_of, start, ahead, passed}
@@ -7,7 +7,7 @@ use Rattle.grammar.specs.Files.{fault_at, lines_from, judge_wire}
 use Rattle.grammar.proofs.Lines.{wire_proper}
 use Rattle.grammar.proofs.Whole.{wires_law}
 use Rattle.load.proofs.Reading.{fewer_left, head_read}
-use Rattle.load.proofs.AddingWires.{WireAhead, wire_ahead, few_names, wires_on, wires_twice, held_wire}
+use Rattle.load.proofs.AddingWires.{wire_ahead, few_names, wires_on, wires_twice, held_wire}
 use Rattle.load.proofs.wires.fill_wires.Goals as goal
 
 pub loop-answer-init : goal.loop-answer-init

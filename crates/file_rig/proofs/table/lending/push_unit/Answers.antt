@@ -1,4 +1,4 @@
-use Rattle.std.proofs.Common.{vec_items, rules}
+use Rattle.std.proofs.Common.{vec_items}
 use Rattle.file_rig.proofs.Finding.{extended}
 use Rattle.file_rig.proofs.table.lending.push_unit.Goals as goal
 

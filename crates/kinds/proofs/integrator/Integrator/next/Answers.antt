@@ -1,5 +1,4 @@
-use Rattle.std.proofs.Common.{◌≡◌, subst, w32, w64, SFits, rules}
-use Rattle.std.proofs.lemmas.Int.{to_z-of_z}
+use Rattle.std.proofs.Common.{w32, w64, SFits, rules}
 use Rattle.kinds.proofs.Stops.{not_between}
 use Rattle.kinds.proofs.integrator.Integrator.next.Goals as goal
 

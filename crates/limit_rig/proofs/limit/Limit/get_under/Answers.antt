@@ -1,4 +1,4 @@
-use Rattle.std.proofs.Common.{false, Err, sym, refl, ap, ◌∙◌}
+use Rattle.std.proofs.Common.{false, Err, sym, ap, ◌∙◌}
 use Rattle.std.specs.List.{slice_get}
 use Rattle.rig.specs.Calls.{get}
 use Rattle.limit_rig.specs.Limits.{loose_if}

@@ -1,4 +1,4 @@
-use Rattle.std.proofs.Common.{Ok, refl, arith}
+use Rattle.std.proofs.Common.{refl, arith}
 use Rattle.rig.specs.Calls.{ports}
 use Rattle.trip_rig.proofs.Players.{told_none, told_player}
 use Rattle.trip_rig.proofs.trip.playing.ports_at.Goals as goal
