@@ -18,7 +18,7 @@ use wiring::table::Wiring;
 /// A port by the name of its unit, which is known.
 fn resolve(rig: &FileRig, name: &[u8], port: usize) -> Port
     requires { (u : ℕ) × (unit_named (names_of rig.now) name.now ≡ Some u) }
-    ensures { IsEnd (names_of rig.now) (record { name = name.entry.now; port = port }) result }
+    ensures { IsEnd (names_of rig.now) (record { name = name.now; port = port }) result }
 {
     match rig.find(name) {
         Some(unit) => Port { unit, port },
