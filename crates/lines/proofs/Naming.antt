@@ -1,5 +1,5 @@
 -- Equal texts, and units by name.
-use Rattle.std.proofs.Common.{◌≡◌, ℕ, zero, suc, Bool, true, false, cond, ◌&&◌, List, [], ◌∷◌, Some, None, Decides, Option, sym, refl, ap, ◌∙◌, ⊎_elim, arith}
+use Rattle.std.proofs.Common.{◌≡◌, ℕ, zero, suc, Bool, true, false, cond, ◌&&◌, List, [], ◌∷◌, Some, None, Option, sym, refl, ap, ◌∙◌, ⊎_elim, arith}
 use Rattle.std.proofs.lemmas.Bool.{eq-eqb, ne_eqb, cases_eq}
 use Rattle.std.specs.Option.{option_map}
 use Rattle.file_rig.specs.Adding.{FoundAt}
@@ -24,11 +24,6 @@ same_false s t ne = by_test (same_text s t) (same_true s t)
     by_test : (b : Bool) → (b ≡ true → s ≡ t) → b ≡ false
     by_test true f = absurd (ne (f refl))
     by_test false f = refl
-
--- a test that decides whether texts are the same is same_text
-pub same_decided : (s t : List ℕ) (b : Bool) → Decides b (s ≡ t) → b ≡ same_text s t
-same_decided s t true d = sym (ap (λ x. same_text s x) (sym (d.0 refl)) ∙ same_refl s)
-same_decided s t false d = sym (same_false s t (λ e. let y : ◌≡◌ {A = Bool} false true = d.1 e in let z : ◌≡◌ {A = ℕ} 0 1 = cc in omega arith))
 
 module _ (name : List ℕ) where
   here : (n : List ℕ) (ns : List (List ℕ)) → n ≡ name → unit_named (n ∷ ns) name ≡ Some 0

@@ -13,15 +13,15 @@ use wiring::port::Port;
 use wiring::table::Wiring;
 
 /// Number, layer, a and b of a refusal; zeros where there was none.
-pub type Told = (usize, usize, usize, usize);
+pub(crate) type Told = (usize, usize, usize, usize);
 
-pub const FINE: Told = (0, 0, 0, 0);
+pub(crate) const FINE: Told = (0, 0, 0, 0);
 
 /// A line that cannot be read, with the number and the field of its refusal.
-pub type BadLine = (&'static [u8], usize, usize);
+pub(crate) type BadLine = (&'static [u8], usize, usize);
 
 /// Texts that are no numbers, whatever field they stand in.
-pub const NOT_NUMBERS: [&[u8]; 30] = [
+pub(crate) const NOT_NUMBERS: [&[u8]; 30] = [
     b"",
     b"-",
     b"--1",
@@ -55,7 +55,7 @@ pub const NOT_NUMBERS: [&[u8]; 30] = [
 ];
 
 /// The parts of a text, joined.
-pub fn joined(heap: Global, parts: &[&[u8]]) -> Result<Vec<u8>, AllocError> {
+pub(crate) fn joined(heap: Global, parts: &[&[u8]]) -> Result<Vec<u8>, AllocError> {
     let mut text = Vec::new(heap);
     for part in parts {
         text.extend_from_slice(part)?;
@@ -63,7 +63,7 @@ pub fn joined(heap: Global, parts: &[&[u8]]) -> Result<Vec<u8>, AllocError> {
     Ok(text)
 }
 
-pub fn told_of(fault: FileFault) -> Told {
+pub(crate) fn told_of(fault: FileFault) -> Told {
     let code = fault.code();
     (code.number, code.layer, code.a, code.b)
 }
@@ -81,7 +81,7 @@ fn units_told(bytes: &[u8], rig: &mut FileRig) -> (usize, Told, usize) {
 }
 
 /// Loads the units file of these parts over a rig of one unit: it answers as told, and leaves so many units.
-pub fn units_file(
+pub(crate) fn units_file(
     rt: &impl Abort,
     heap: Global,
     rig: &mut FileRig,
@@ -96,7 +96,7 @@ pub fn units_file(
 }
 
 /// How many of the 16 times 8 inputs have a source.
-pub fn wired(wiring: &Wiring) -> usize {
+pub(crate) fn wired(wiring: &Wiring) -> usize {
     let mut n: usize = 0;
     for unit in 0..16 {
         for port in 0..8 {
@@ -120,7 +120,7 @@ fn wires_told(bytes: &[u8], rig: &FileRig, wiring: &mut Wiring) -> (usize, Told,
 }
 
 /// Loads the wires file of these parts over a wiring of one wire: it answers as told, and leaves so many wires.
-pub fn wires_file(
+pub(crate) fn wires_file(
     rt: &impl Abort,
     heap: Global,
     rig: &FileRig,
@@ -143,7 +143,7 @@ const SIXTEEN: &[u8] =
     b"UNITS,1,9\nK,used,1\nK,tank,1\nK,a,1\nK,b,1\nK,winch,1\nK,net,1\nK,draw,1\nK,12345678,1\nK,0,1\nK,c,1\nK,d,1\nK,e,1\nK,f,1\nK,g,1\nK,abcdefgh,1\nK,z,1\n";
 
 /// A rig of these 16 units.
-pub fn sixteen(heap: Global) -> FileRig {
+pub(crate) fn sixteen(heap: Global) -> FileRig {
     let mut rig = FileRig::new(heap);
     let _ = load_units(SIXTEEN, &mut rig);
     rig
