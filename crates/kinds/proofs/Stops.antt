@@ -1,12 +1,12 @@
 -- BOUND of an integrator is the longest step, up to m, that keeps it within its stops.
-use Rattle.std.proofs.Common.{◌≡◌, ℕ, zero, suc, ◌*◌, ◌/◌, ◌<◌, ◌≤◌, ◌⊎◌, [], ◌∷◌, ℤ, pos, negsuc, ◌+ℤ◌, ◌-ℤ◌, ◌*ℤ◌, ◌≤ℤ◌, sym, refl, ap, ◌∙◌, subst, inl, inr, le-div_iff_mul-le, arith, w32, w64, SFits, to_z, of_z}
-use Rattle.std.proofs.lemmas.Int.{ints, to_z-of_z}
+use Rattle.std.proofs.Common.{◌≡◌, ℕ, zero, suc, ◌*◌, ◌/◌, ◌<◌, ◌≤◌, ◌⊎◌, ℤ, pos, negsuc, ◌+ℤ◌, ◌-ℤ◌, ◌≤ℤ◌, sym, subst, inl, inr, le-div_iff_mul-le, arith}
+use Rattle.std.proofs.lemmas.Int.{ints}
 use Rattle.std.proofs.lemmas.Bool.{cases_lt}
 use Rattle.kinds.specs.declared.integrator.Integrator.{Integrator}
 use Rattle.kinds.specs.declared.body.Body.{Body}
 use Rattle.kinds.specs.declared.body.Body.TheVariants as bodies
 use Rattle.kinds.specs.Rules.{Between, Takes, LongestStep, room, bound_by}
-use Rattle.kinds.specs.Contents.{integrator_held, TakesStep, bound_body, next_by, Becomes}
+use Rattle.kinds.specs.Contents.{TakesStep, bound_body}
 
 -- x and the room above it make hi
 room_is : (x hi : ℤ) → x ≤ℤ hi → hi ≡ x +ℤ pos (room (hi -ℤ x))
@@ -46,32 +46,15 @@ longest x lo hi m (negsuc n) h w t =
 pub longest_step : (x lo hi : ℤ) (m : ℕ) (u : ℤ) → Between lo x hi → LongestStep x lo hi m u (bound_by x lo hi m u)
 longest_step x lo hi m u w = record { takes = λ h l. takes x lo hi m u h w l; longest = λ h t. longest x lo hi m u h w t }
 
--- the code's numbers for the rules': what is not between the stops in one is not in the other
-pub not_between : (i : Integrator) (h : ℕ) → SFits w32 i.x → SFits w32 i.u → SFits w32 i.lo → SFits w32 i.hi
-    → (r : ℤ) → SFits w64 r → r ≡ to_z w32 (of_z w32 i.x) +ℤ to_z w32 (of_z w32 i.u) *ℤ pos h
-    → (Between (to_z w32 (of_z w32 i.lo)) (to_z w64 (of_z w64 r)) (to_z w32 (of_z w32 i.hi)) → ⊥) → Between i.lo (i.x +ℤ i.u *ℤ pos h) i.hi → ⊥
-not_between i h fx fu fl fh r fr e out t =
-    let x = to_z-of_z w32 i.x fx in let u = to_z-of_z w32 i.u fu in
-    let l = to_z-of_z w32 i.lo fl in let g = to_z-of_z w32 i.hi fh in
-    let q : to_z w64 (of_z w64 r) ≡ i.x +ℤ i.u *ℤ pos h = to_z-of_z w64 r fr ∙ e ∙ ap (λ z. z +ℤ to_z w32 (of_z w32 i.u) *ℤ pos h) x ∙ ap (λ z. i.x +ℤ z *ℤ pos h) u in
-    out (rw (l, q, g) t)
-
 within : (i : Integrator) → Between i.lo i.x i.hi
 within i = record { above = i.above; below = i.below }
 
-moves : (i j : Integrator) (h : ℕ)
-    → TakesStep i h × (integrator_held j ≡ record { state = (i.x +ℤ i.u *ℤ pos h) ∷ i.lo ∷ i.hi ∷ pos i.m ∷ []; inputs = i.u ∷ [] })
-    → (h ≤ bound_body (bodies.Integrator i)) × Becomes (bodies.Integrator i) (next_by (bodies.Integrator i) h) (bodies.Integrator j)
-moves i j h t = ((longest_step i.x i.lo i.hi i.m i.u (within i)).longest h t.0, record { kind = refl; held = t.1 })
-
--- an integrator's body, moved where it takes the step and with BOUND below the step where it does not
-pub body_moves : (b : Body) (i j : Integrator) (h : ℕ) → b ≡ bodies.Integrator i
-    → TakesStep i h × (integrator_held j ≡ record { state = (i.x +ℤ i.u *ℤ pos h) ∷ i.lo ∷ i.hi ∷ pos i.m ∷ []; inputs = i.u ∷ [] })
-    → (h ≤ bound_body b) × Becomes b (next_by b h) (bodies.Integrator j)
-body_moves b i j h e t = subst (λ (z : Body). (h ≤ bound_body z) × Becomes z (next_by z h) (bodies.Integrator j)) (sym e) (moves i j h t)
+-- an integrator's body: BOUND is not below a step that it takes, and below any other
+pub body_takes : (b : Body) (i : Integrator) (h : ℕ) → b ≡ bodies.Integrator i → TakesStep i h → h ≤ bound_body b
+body_takes b i h e t = subst (λ (z : Body). h ≤ bound_body z) (sym e) ((longest_step i.x i.lo i.hi i.m.ticks i.u (within i)).longest h t)
 
 pub body_stays : (b : Body) (i : Integrator) (h : ℕ) → b ≡ bodies.Integrator i → (TakesStep i h → ⊥) → bound_body b < h
 body_stays b i h e no_step = subst (λ (z : Body). bound_body z < h) (sym e) (stays (cases_lt (bound_body (bodies.Integrator i)) h)) where
   stays : (bound_body (bodies.Integrator i) < h) ⊎ (h ≤ bound_body (bodies.Integrator i)) → bound_body (bodies.Integrator i) < h
   stays (inl l) = l
-  stays (inr l) = absurd (no_step ((longest_step i.x i.lo i.hi i.m i.u (within i)).takes h l))
+  stays (inr l) = absurd (no_step ((longest_step i.x i.lo i.hi i.m.ticks i.u (within i)).takes h l))

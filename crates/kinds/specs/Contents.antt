@@ -11,22 +11,22 @@ use Rattle.kinds.specs.declared.body.Body.TheVariants as bodies
 use Rattle.kinds.specs.Rules.{Takes, integrator, gain, constant}
 
 abbrev pub integrator_held : Integrator → Held ℤ
-integrator_held i = record { state = i.x ∷ i.lo ∷ i.hi ∷ pos i.m ∷ []; inputs = i.u ∷ [] }
+integrator_held i = record { state = i.x ∷ i.lo ∷ i.hi ∷ pos i.m.ticks ∷ []; inputs = i.u ∷ [] }
 
 abbrev pub gain_held : Gain → Held ℤ
-gain_held g = record { state = g.a ∷ g.b ∷ g.c ∷ []; inputs = g.u0 ∷ g.u1 ∷ [] }
+gain_held g = record { state = g.a.value ∷ g.b.value ∷ g.c ∷ []; inputs = g.inputs }
 
 abbrev pub constant_held : Constant → Held ℤ
 constant_held k = record { state = k.v ∷ []; inputs = [] }
 
 -- an integrator takes h ticks: neither m nor a stop comes first
 abbrev pub TakesStep : Integrator → ℕ → Type 0
-TakesStep i h = Takes i.x i.lo i.hi i.m i.u h
+TakesStep i h = Takes i.x i.lo i.hi i.m.ticks i.u h
 
 -- an integrator moved by h ticks, or none where it does not take them
 abbrev pub Advanced : Integrator → ℕ → Option Integrator → Type 0
 Advanced i h r = MatchOption r (TakesStep i h → ⊥)
-    (λ j. TakesStep i h × (integrator_held j ≡ record { state = (i.x +ℤ i.u *ℤ pos h) ∷ i.lo ∷ i.hi ∷ pos i.m ∷ []; inputs = i.u ∷ [] }))
+    (λ j. TakesStep i h × (integrator_held j ≡ record { state = (i.x +ℤ i.u *ℤ pos h) ∷ i.lo ∷ i.hi ∷ pos i.m.ticks ∷ []; inputs = i.u ∷ [] }))
 
 abbrev pub rules_of : Kind → Rules ℤ
 rules_of kinds.Integrator = integrator

@@ -1,5 +1,5 @@
 -- Which designs make a unit, and what a new unit holds.
-use Rattle.std.specs.Prelude.{◌≡◌, Bool, cond, ◌&&◌, [], ◌∷◌, ℤ, pos, negsuc, Some, None, Ok, Err, Option, Result, int_le, nat_le}
+use Rattle.std.specs.Prelude.{◌≡◌, ℕ, Bool, cond, ◌&&◌, [], ◌∷◌, ℤ, pos, negsuc, Some, None, Ok, Err, Option, Result, int_le, nat_le}
 use Rattle.rig.specs.Units.{Held}
 use Rattle.kinds.specs.declared.kind.Kind.{Kind}
 use Rattle.kinds.specs.declared.kind.Kind.TheVariants as kinds
@@ -15,9 +15,13 @@ use Rattle.kinds.specs.Contents.{kind_of, held_of}
 abbrev pub is_factor : ℤ → Bool
 is_factor a = int_le (negsuc 999) a && int_le a (pos 1000)
 
+-- the longest step of an integrator: 1 to 1,000,000 ticks
+abbrev pub is_step_limit : ℕ → Bool
+is_step_limit m = nat_le 1 m && nat_le m 1000000
+
 -- the first cause for which a design makes no unit: ranges from the left, then x outside lo to hi
 abbrev pub design_fault : Design → Option DesignFault
-design_fault (Integrator x lo hi m) = cond (nat_le 1 m && nat_le m 1000000) (cond (int_le lo x && int_le x hi) None (Some Outside)) (Some StepLimit)
+design_fault (Integrator x lo hi m) = cond (is_step_limit m) (cond (int_le lo x && int_le x hi) None (Some Outside)) (Some StepLimit)
 design_fault (Gain a b k) = cond (is_factor a) (cond (is_factor b) None (Some FactorB)) (Some FactorA)
 design_fault (Constant v) = None
 
@@ -34,8 +38,8 @@ held_as (Constant v) = record { state = v ∷ []; inputs = [] }
 
 -- the design of a body as it stands
 abbrev pub design_of : Body → Design
-design_of (bodies.Integrator i) = Integrator i.x i.lo i.hi i.m
-design_of (bodies.Gain g) = Gain g.a g.b g.c
+design_of (bodies.Integrator i) = Integrator i.x i.lo i.hi i.m.ticks
+design_of (bodies.Gain g) = Gain g.a.value g.b.value g.c
 design_of (bodies.Constant k) = Constant k.v
 
 -- contents made by a design, or the first cause against it

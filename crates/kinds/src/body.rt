@@ -3,7 +3,7 @@ use super::gain::Gain;
 use super::integrator::Integrator;
 
 /// What a unit in place holds: its state and its inputs.
-#[derive(Clone, Copy)]
+#[derive(Clone, Copy, PartialEq, Eq, Debug)]
 pub enum Body {
     Integrator(Integrator),
     Gain(Gain),

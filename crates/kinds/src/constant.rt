@@ -1,5 +1,5 @@
 /// A constant's state: its value.
-#[derive(Clone, Copy)]
+#[derive(Clone, Copy, PartialEq, Eq, Debug)]
 pub struct Constant {
     v: i32,
 }

@@ -1,17 +1,15 @@
-ghost use Rattle.std.specs.Prelude.{pos, negsuc, ◌≤ℤ◌};
+ghost use Rattle.std.specs.Prelude.{◌≡◌, ℕ, length};
 
-/// A gain's state and inputs: factors a and b of at most 1,000 either way, the addend c, and the inputs u0 and u1.
-#[derive(Clone, Copy)]
+use super::parameters::Factor;
+
+/// A gain's state and inputs: factors a and b, the addend c, and the inputs u0 and u1.
+#[derive(Clone, Copy, PartialEq, Eq, Debug)]
 pub struct Gain {
-    a: i32,
-    b: i32,
+    a: Factor,
+    b: Factor,
     c: i32,
-    u0: i32,
-    u1: i32,
-    ghost a_above: { negsuc 999 ≤ℤ a },
-    ghost a_below: { a ≤ℤ pos 1000 },
-    ghost b_above: { negsuc 999 ≤ℤ b },
-    ghost b_below: { b ≤ℤ pos 1000 },
+    inputs: [i32; 2],
+    ghost two: { length inputs ≡ 2 },
 }
 
 pub mod rules;

@@ -8,3 +8,4 @@ pub mod gain;
 pub mod integrator;
 pub mod kind;
 mod numbers;
+mod parameters;

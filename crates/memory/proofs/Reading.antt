@@ -4,10 +4,10 @@ use Rattle.std.proofs.lemmas.List.{map-set}
 use Rattle.std.specs.Option.{option_map}
 use Rattle.rig.specs.declared.cause.Cause.{Cause}
 use Rattle.rig.specs.declared.cause.Cause.TheVariants.{NoSuch}
-use Rattle.rig.specs.Units.{Rules, Held}
-use Rattle.rig.specs.Calls.{UnitCalled, require, if_empty, if_filled, save_answer, back_answer, filled_at, status_of, unit_after, save, restore, free}
+use Rattle.rig.specs.Units.{Rules, Held, with_place}
+use Rattle.rig.specs.Calls.{Call, UnitCalled, require, if_empty, if_filled, save_answer, back_answer, filled_at, status_of, unit_after, save, free}
 use Rattle.memory.specs.declared.store.Memory.{Memory}
-use Rattle.memory.specs.Kept.{Saved, Restored, Freed, unit_with, unit_from}
+use Rattle.memory.specs.Kept.{Saved, Freed, unit_with, unit_from}
 
 module _ {X Y : Type 0} (f : X → Y) where
   pub place_mapped : (ps : List (Option X)) (p : ℕ) → get_or (map (option_map f) ps) p None ≡ option_map f (get_or ps p None)
@@ -46,33 +46,17 @@ module _ {X S : Type 0} (k : Rules S) (f : X → Held S) where
       let l = some_mapped f o in
       let a = filled_at_lem f ps 0 in let b = filled_at_lem f ps 1 in let d = filled_at_lem f ps 2 in let e = filled_at_lem f ps 3 in cc
 
+  -- a call that puts o into place p where it is not refused
+  placed : (call : Call S (Unit {0})) (p : ℕ) (o : Option X) (m n : Memory X) (r : Result (Unit {0}) Cause) → call.answer (unit_from k f m) ≡ r
+      → call.effect (unit_from k f m) ≡ with_place (unit_from k f m) p (option_map f o)
+      → n.held ≡ m.held → n.places ≡ cond (is_ok r) (set m.places p o) m.places → UnitCalled call (unit_from k f m) r (unit_from k f n)
+  placed call p o m n r told effect held places = record { answer = sym told; unit = after r told places ∙ sym (ap (unit_after call (unit_from k f m)) told) } where
+    after : (q : Result (Unit {0}) Cause) → call.answer (unit_from k f m) ≡ q → n.places ≡ cond (is_ok q) (set m.places p o) m.places → unit_from k f n ≡ unit_after call (unit_from k f m) q
+    after (Ok t) a e = with_same held e ∙ ap (λ z. record { rules = k; held = option_map f m.held; places = z }) (map-set (option_map f) m.places p o) ∙ sym effect
+    after (Err x) a e = with_same held e
+
   pub saved_unit : (p : ℕ) (m n : Memory X) (r : Result (Unit {0}) Cause) → Saved p m r n → UnitCalled (save p) (unit_from k f m) r (unit_from k f n)
-  saved_unit p m n r s = record { answer = sym told; unit = kept r told s.places } where
-    told : save_answer p (option_map f m.held) (map (option_map f) m.places) ≡ r
-    told = save_mapped f p m.held m.places ∙ sym s.answer
-
-    kept : (q : Result (Unit {0}) Cause) → save_answer p (option_map f m.held) (map (option_map f) m.places) ≡ q
-        → n.places ≡ cond (is_ok q) (set m.places p m.held) m.places
-        → unit_from k f n ≡ unit_after (save p) (unit_from k f m) (save_answer p (option_map f m.held) (map (option_map f) m.places))
-    kept (Ok t) a e = with_same s.held e ∙ ap (λ z. record { rules = k; held = option_map f m.held; places = z }) (map-set (option_map f) m.places p m.held) ∙ sym (ap (unit_after (save p) (unit_from k f m)) a)
-    kept (Err x) a e = with_same s.held e ∙ sym (ap (unit_after (save p) (unit_from k f m)) a)
-
-  pub restored_unit : (p : ℕ) (m n : Memory X) (r : Result (Unit {0}) Cause) → Restored p m r n → UnitCalled (restore p) (unit_from k f m) r (unit_from k f n)
-  restored_unit p m n r s = record { answer = sym told; unit = kept r told s.held } where
-    told : back_answer p (map (option_map f) m.places) ≡ r
-    told = back_mapped f p m.places ∙ sym s.answer
-
-    kept : (q : Result (Unit {0}) Cause) → back_answer p (map (option_map f) m.places) ≡ q → n.held ≡ cond (is_ok q) (get_or m.places p None) m.held
-        → unit_from k f n ≡ unit_after (restore p) (unit_from k f m) (back_answer p (map (option_map f) m.places))
-    kept (Ok t) a e = with_same e s.places ∙ ap (λ z. record { rules = k; held = z; places = map (option_map f) m.places }) (sym (place_mapped f m.places p)) ∙ sym (ap (unit_after (restore p) (unit_from k f m)) a)
-    kept (Err x) a e = with_same e s.places ∙ sym (ap (unit_after (restore p) (unit_from k f m)) a)
+  saved_unit p m n r s = placed (save p) p m.held m n r (save_mapped f p m.held m.places ∙ sym s.answer) refl s.held s.places
 
   pub freed_unit : (p : ℕ) (m n : Memory X) (r : Result (Unit {0}) Cause) → Freed p m r n → UnitCalled (free p) (unit_from k f m) r (unit_from k f n)
-  freed_unit p m n r s = record { answer = sym told; unit = kept r told s.places } where
-    told : back_answer p (map (option_map f) m.places) ≡ r
-    told = back_mapped f p m.places ∙ sym s.answer
-
-    kept : (q : Result (Unit {0}) Cause) → back_answer p (map (option_map f) m.places) ≡ q → n.places ≡ cond (is_ok q) (set m.places p None) m.places
-        → unit_from k f n ≡ unit_after (free p) (unit_from k f m) (back_answer p (map (option_map f) m.places))
-    kept (Ok t) a e = with_same s.held e ∙ ap (λ z. record { rules = k; held = option_map f m.held; places = z }) (map-set (option_map f) m.places p None) ∙ sym (ap (unit_after (free p) (unit_from k f m)) a)
-    kept (Err x) a e = with_same s.held e ∙ sym (ap (unit_after (free p) (unit_from k f m)) a)
+  freed_unit p m n r s = placed (free p) p None m n r (back_mapped f p m.places ∙ sym s.answer) refl s.held s.places

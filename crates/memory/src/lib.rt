@@ -27,6 +27,7 @@ impl<T: Copy> Memory<T> {
     pub fn status(&self) -> Status
         ensures { result ≡ status_of self.now.held self.now.places }
     {
+        // Taken apart by hand: the check does not cover `map` on an array whose items are of a type parameter.
         let [a, b, c, d] = self.places;
         Status {
             loose: self.held.is_none(),
@@ -35,17 +36,13 @@ impl<T: Copy> Memory<T> {
     }
 
     /// Copies the contents into an empty place.
+    // By index at the end, here and in `free`: with `get_mut` the goals at each way out stayed open.
     pub fn save(&mut self, place: usize) -> Result<(), Cause>
         ensures { Saved place self.old result self.new }
     {
-        if place >= 4 {
-            return Err(Cause::NoSuch);
-        }
-        let Some(contents) = self.held else {
-            return Err(Cause::Loose);
-        };
-        let kept = self.places[place];
-        if let Some(_) = kept {
+        let kept = *self.places.get(place).ok_or(Cause::NoSuch)?;
+        let contents = self.held.ok_or(Cause::Loose)?;
+        if kept.is_some() {
             return Err(Cause::Filled);
         }
         self.places[place] = Some(contents);
@@ -56,14 +53,8 @@ impl<T: Copy> Memory<T> {
     pub fn restore(&mut self, place: usize) -> Result<(), Cause>
         ensures { Restored place self.old result self.new }
     {
-        if place >= 4 {
-            return Err(Cause::NoSuch);
-        }
-        let kept = self.places[place];
-        let Some(contents) = kept else {
-            return Err(Cause::Empty);
-        };
-        self.held = Some(contents);
+        let kept = *self.places.get(place).ok_or(Cause::NoSuch)?;
+        self.held = Some(kept.ok_or(Cause::Empty)?);
         Ok(())
     }
 
@@ -71,13 +62,8 @@ impl<T: Copy> Memory<T> {
     pub fn free(&mut self, place: usize) -> Result<(), Cause>
         ensures { Freed place self.old result self.new }
     {
-        if place >= 4 {
-            return Err(Cause::NoSuch);
-        }
-        let kept = self.places[place];
-        let Some(_) = kept else {
-            return Err(Cause::Empty);
-        };
+        let kept = *self.places.get(place).ok_or(Cause::NoSuch)?;
+        kept.ok_or(Cause::Empty)?;
         self.places[place] = None;
         Ok(())
     }

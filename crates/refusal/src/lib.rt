@@ -19,10 +19,6 @@ impl fmt::Display for Code {
     ghost output = { λ c. Some (decimal c.number ++ (32 ∷ (decimal c.layer ++ (32 ∷ (decimal c.a ++ (32 ∷ decimal c.b)))))) };
 
     fn fmt<W: fmt::Write>(&self, f: &mut fmt::Formatter<W>) -> fmt::Result {
-        let number = self.number;
-        let layer = self.layer;
-        let a = self.a;
-        let b = self.b;
-        write!(f, "{number} {layer} {a} {b}")
+        write!(f, "{} {} {} {}", self.number, self.layer, self.a, self.b)
     }
 }

@@ -1,11 +1,11 @@
 -- A call of one unit, as a call of its rig.
-use Rattle.std.proofs.Common.{◌≡◌, ℕ, zero, suc, ◌<◌, ◌≤◌, List, [], ◌∷◌, length, set, Some, Ok, Err, Result, sym, refl, ap, ◌∙◌, arith}
+use Rattle.std.proofs.Common.{◌≡◌, ℕ, zero, suc, ◌<◌, ◌≤◌, List, [], ◌∷◌, length, set, Some, Err, Result, sym, refl, ap, ◌∙◌, arith}
 use Rattle.std.specs.List.{slice_get}
 use Rattle.std.proofs.lemmas.Option.{slice_get_past}
 use Rattle.rig.specs.declared.cause.Cause.{Cause}
 use Rattle.rig.specs.declared.cause.Cause.TheVariants.{NoSuch}
 use Rattle.rig.specs.Units.{RigUnit}
-use Rattle.rig.specs.Calls.{Call, Called, UnitCalled, answer_of, answer_in, blamed, after_in, unit_after}
+use Rattle.rig.specs.Calls.{Call, Called, UnitCalled, answer_of, answer_in, blamed, after_in}
 
 pub nth_some : {X : Type 0} (us : List X) (u : ℕ) → u < length us → (x : X) × (slice_get us u ≡ Some x)
 nth_some [] u h = absurd (omega arith)
@@ -32,10 +32,3 @@ module _ {S T : Type 0} (k : Call S T) (us : List (RigUnit S)) (u : ℕ) (missin
 
   pub called_missing : Called k us u (Err (record { cause = NoSuch; unit = u; target = k.target })) us
   called_missing = record { answer = answer_missing; units = sym (ap (after_in k us u) (slice_get_past us u missing)) }
-
--- a unit that does not refuse, and one that does
-pub unit_did : {S T : Type 0} (k : Call S T) (x y : RigUnit S) (t : T) → k.answer x ≡ Ok t → y ≡ k.effect x → UnitCalled k x (Ok t) y
-unit_did k x y t a e = record { answer = sym a; unit = e ∙ sym (ap (unit_after k x) a) }
-
-pub unit_refused : {S T : Type 0} (k : Call S T) (x : RigUnit S) (e : Cause) → k.answer x ≡ Err e → UnitCalled k x (Err e) x
-unit_refused k x e a = record { answer = sym a; unit = sym (ap (unit_after k x) a) }

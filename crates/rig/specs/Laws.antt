@@ -25,11 +25,15 @@ abbrev pub SuitsIn : {S : Type 0} → Rules S → Option (Held S) → Type 0
 SuitsIn k None = Unit {0}
 SuitsIn k (Some a) = Suits k a
 
+-- rules that a rig can serve: at most 8 inputs and 8 outputs, masks of 8 bits, and OUT reads only what the masks say
+pub record SoundRules {S : Type 0} (k : Rules S) : Type 0 where
+  pub inputs : k.inputs ≤ 8
+  pub outputs : length k.masks ≤ 8
+  pub masks : AllByRecursion (λ m. m < 256) k.masks
+  pub reads : ReadsMasked k
+
 pub record SoundUnit {S : Type 0} (x : RigUnit S) : Type 0 where
-  pub inputs : x.rules.inputs ≤ 8
-  pub outputs : length x.rules.masks ≤ 8
-  pub masks : AllByRecursion (λ m. m < 256) x.rules.masks
-  pub reads : ReadsMasked x.rules
+  pub rules : SoundRules x.rules
   pub four : length x.places ≡ 4
   pub held : SuitsIn x.rules x.held
   pub kept : AllByRecursion (SuitsIn x.rules) x.places

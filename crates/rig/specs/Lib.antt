@@ -1,4 +1,5 @@
 pub mod Units
 pub mod Laws
+pub mod Behaving
 pub mod Calls
 pub mod Codes

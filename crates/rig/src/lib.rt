@@ -9,11 +9,10 @@ ghost use Rattle.rig.specs.Calls.{Called, answer_of, ports, mask, status, put, g
 use cause::RigFault;
 use shape::{Ports, Status};
 
+pub mod behaviour;
 pub mod cause;
-pub mod fault;
 pub mod numbering;
 pub mod shape;
-pub mod words;
 
 /// Units behind one interface; `model` tells what each unit is and holds.
 pub trait Rig {

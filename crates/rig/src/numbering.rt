@@ -8,18 +8,12 @@ use super::cause::{Cause, RigFault, Target};
 pub fn blame<T>(answer: Result<T, Cause>, unit: usize, target: Target) -> Result<T, RigFault>
     ensures { result ≡ blamed unit target answer }
 {
-    match answer {
-        Ok(told) => Ok(told),
-        Err(cause) => Err(RigFault::new(cause, unit, target)),
-    }
+    answer.map_err(|cause| RigFault::new(cause, unit, target))
 }
 
 /// What a rig below answered, a fault's unit numbered as this level numbers it.
 pub fn renumber<T>(answer: Result<T, RigFault>, unit: usize) -> Result<T, RigFault>
     ensures { result ≡ renumbered unit answer }
 {
-    match answer {
-        Ok(told) => Ok(told),
-        Err(fault) => Err(RigFault::new(fault.cause, unit, fault.target)),
-    }
+    answer.map_err(|fault| RigFault::new(fault.cause, unit, fault.target))
 }

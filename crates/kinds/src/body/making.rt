@@ -14,14 +14,10 @@ impl Body {
         ensures { Made design result }
     {
         match design {
-            Design::Integrator { x, lo, hi, m } => match Integrator::new(x, lo, hi, m) {
-                Ok(integrator) => Ok(Body::Integrator(integrator)),
-                Err(fault) => Err(fault),
-            },
-            Design::Gain { a, b, c } => match Gain::new(a, b, c) {
-                Ok(gain) => Ok(Body::Gain(gain)),
-                Err(fault) => Err(fault),
-            },
+            Design::Integrator { x, lo, hi, m } => {
+                Integrator::new(x, lo, hi, m).map(Body::Integrator)
+            }
+            Design::Gain { a, b, c } => Gain::new(a, b, c).map(Body::Gain),
             Design::Constant { v } => Ok(Body::Constant(Constant::new(v))),
         }
     }

@@ -1,4 +1,4 @@
-// OUT, BOUND and NEXT of a unit by its kind.
+// OUT, BOUND and NEXT of a unit by its kind. A trait of the three kinds would leave these matches and add its three impls.
 ghost use Rattle.std.specs.Prelude.{◌≡◌, ℕ, ◌≤◌};
 ghost use Rattle.kinds.specs.Contents.{kind_of, out_by, bound_body, fed_by, Becomes, Nexts};
 
@@ -39,20 +39,14 @@ impl Body {
     }
 
     /// NEXT by h ticks, unless BOUND is less.
+    #[tactic(auto, using(crate::proofs::Stops::body_takes, crate::proofs::Stops::body_stays))]
     pub fn next(&self, h: u32) -> Option<Body>
         ensures { Nexts self.now h result }
     {
         match self {
-            Body::Integrator(integrator) => match integrator.next(h) {
-                Some(moved) => Some(Body::Integrator(moved)),
-                None => None,
-            },
-            Body::Gain(_) | Body::Constant(_) => {
-                if h > 1_000_000 {
-                    return None;
-                }
-                Some(*self)
-            }
+            // `?` and no `map`, over which a goal stayed open.
+            Body::Integrator(integrator) => Some(Body::Integrator(integrator.next(h)?)),
+            Body::Gain(_) | Body::Constant(_) => (h <= 1_000_000).then_some(*self),
         }
     }
 

@@ -5,6 +5,7 @@ ghost use Rattle.kinds.specs.Designs.{MadeBy};
 
 use super::super::design::{Design, DesignFault};
 use super::super::numbers::{advance, between, gap};
+use super::super::parameters::StepLimit;
 use super::Integrator;
 
 impl Integrator {
@@ -12,10 +13,8 @@ impl Integrator {
     pub(crate) fn new(x: i32, lo: i32, hi: i32, m: u32) -> Result<Integrator, DesignFault>
         ensures { MadeBy (Design.Integrator x lo hi m) integrator_held result }
     {
-        if m < 1 || m > 1_000_000 {
-            return Err(DesignFault::StepLimit);
-        }
-        if x < lo || x > hi {
+        let m = StepLimit::new(m).ok_or(DesignFault::StepLimit)?;
+        if !(lo..=hi).contains(&x) {
             return Err(DesignFault::Outside);
         }
         Ok(Integrator { x, lo, hi, m, u: 0 })
@@ -23,13 +22,13 @@ impl Integrator {
 
     /// The design of the integrator as it stands.
     pub(crate) fn design(&self) -> Design
-        ensures { result ≡ Design.Integrator self.now.x self.now.lo self.now.hi self.now.m }
+        ensures { result ≡ Design.Integrator self.now.x self.now.lo self.now.hi self.now.m.ticks }
     {
         Design::Integrator {
             x: self.x,
             lo: self.lo,
             hi: self.hi,
-            m: self.m,
+            m: self.m.ticks,
         }
     }
 
@@ -45,50 +44,35 @@ impl Integrator {
         ensures { result ≡ integrator.bound (integrator_held self.now).state (integrator_held self.now).inputs }
     {
         if self.u == 0 {
-            return self.m;
+            return self.m.ticks;
         }
         let room = if self.u > 0 {
             gap(self.x, self.hi)
         } else {
             gap(self.lo, self.x)
         };
-        let ticks = room / self.u.unsigned_abs();
-        if ticks < self.m { ticks } else { self.m }
+        (room / self.u.unsigned_abs()).min(self.m.ticks)
     }
 
     /// NEXT by h ticks, unless m or a stop comes first.
-    pub(crate) fn next(&self, h: u32) -> Option<Integrator>
-        ensures { Advanced self.now h result }
+    pub(crate) fn next(mut self, h: u32) -> Option<Integrator>
+        ensures { Advanced self h result }
     {
-        if h > self.m {
+        if h > self.m.ticks {
             return None;
         }
-        let Some(x) = between(self.lo, advance(self.x, self.u, h), self.hi) else {
-            return None;
-        };
-        Some(Integrator {
-            x,
-            lo: self.lo,
-            hi: self.hi,
-            m: self.m,
-            u: self.u,
-        })
+        let x = between(self.lo, advance(self.x, self.u, h), self.hi)?;
+        self.x = x;
+        Some(self)
     }
 
     /// The input set; no other port is one.
-    pub(crate) fn put(&self, port: usize, value: i32) -> Integrator
-        ensures { integrator_held result ≡ record { state = (integrator_held self.now).state; inputs = slice_set (integrator_held self.now).inputs port value } }
+    pub(crate) fn put(mut self, port: usize, value: i32) -> Integrator
+        ensures { integrator_held result ≡ record { state = (integrator_held self).state; inputs = slice_set (integrator_held self).inputs port value } }
     {
         if port == 0 {
-            Integrator {
-                x: self.x,
-                lo: self.lo,
-                hi: self.hi,
-                m: self.m,
-                u: value,
-            }
-        } else {
-            *self
+            self.u = value;
         }
+        self
     }
 }

@@ -1,0 +1,4 @@
+pub mod Own
+pub mod Soundness
+pub mod Lending
+pub mod Pushing
