@@ -1,12 +1,10 @@
 -- Text parted by a separator. A separator has a part on each side, so a text has one part more than it has separators.
-use Rattle.std.specs.Prelude.{◌≡◌, ℕ, ◌<◌, ◌≤◌, cond, List, [], ◌∷◌, ◌++◌, length, Some, None, Option, ◌==◌, ◌≢◌, slice_index}
-use Rattle.std.specs.List.{AllByRecursion}
+use Rattle.std.specs.Prelude.{◌≡◌, ℕ, ◌<◌, ◌≤◌, List, length, Some, None, Option, ◌==◌, ◌≢◌, slice_index}
+use Rattle.std.specs.List.{AllByRecursion, join_with_byte, slice_split}
 
 -- parts with the separator between them
 abbrev pub joined_by : ℕ → List (List ℕ) → List ℕ
-joined_by sep [] = []
-joined_by sep (p ∷ []) = p
-joined_by sep (p ∷ q ∷ ps) = p ++ (sep ∷ joined_by sep (q ∷ ps))
+joined_by sep ps = join_with_byte sep ps
 
 -- no byte of the text is the separator
 abbrev pub Lacks : ℕ → List ℕ → Type 0
@@ -18,15 +16,9 @@ pub record Parted (sep : ℕ) (text : List ℕ) (ps : List (List ℕ)) : Type 0 
   pub whole : joined_by sep ps ≡ text
   pub apart : AllByRecursion (Lacks sep) ps
 
--- a byte more at the front of the first part
-abbrev pub onto : ℕ → List (List ℕ) → List (List ℕ)
-onto b [] = []
-onto b (p ∷ ps) = (b ∷ p) ∷ ps
-
 -- the parts of a text, found byte by byte
 abbrev pub parts : ℕ → List ℕ → List (List ℕ)
-parts sep [] = [] ∷ []
-parts sep (b ∷ bs) = cond (b == sep) ([] ∷ parts sep bs) (onto b (parts sep bs))
+parts sep text = slice_split (λ b. b == sep) text
 
 -- what is found are the parts, and no other list is
 pub record PartsLaw (sep : ℕ) (text : List ℕ) : Type 0 where

@@ -8,12 +8,9 @@ use Rattle.std.proofs.lemmas.Fmt.{decimal_digit, decimal_nonempty, first_decimal
 use Rattle.std.proofs.lemmas.List.{at_drop_more, at_drop_all, take_all}
 use Rattle.std.proofs.lemmas.Str.Parse.{IsNumeralModel, numerals_by_fold, tells_all_ascii_digits, digit_at}
 use Rattle.std.proofs.lemmas.Int.{ints}
+use Rattle.std.proofs.lemmas.Option.{none-some, cond_some}
 use Rattle.std.proofs.lemmas.Bool.{leb-true, leb-false, le-leb, lt-leb, eqb-true, eqb-false, eq-eqb, ne_eqb, and_parts, and_from, and_right, cond-true, cond-false}
 use Rattle.numerals.specs.Numbers.{IsSignal, Says, read_on, read_in, is_numeral, whole_in, number_of}
-
--- nothing is not something
-not_some : {A P : Type 0} (x : A) → ◌≡◌ {A = Option A} None (Some x) → P
-not_some x e = let z : ◌≡◌ {A = ℕ} 0 1 = cc in absurd (omega arith)
 
 -- ---- the loop over digits
 
@@ -25,11 +22,11 @@ read_grows n (d ∷ ds) = let h = read_grows (n * 10 + (d - 48)) ds in omega ari
 more_go : (most n m : ℕ) (ds : List ℕ) (a b : Bool) → leb n most ≡ b → cond ((a && true) && b) (Some n) None ≡ Some m
     → (m ≤ most) × (cond ((a && all_ascii_digits ds) && leb (read_on n ds) most) (Some (read_on n ds)) None ≡ read_in most m ds)
 more_go most n m ds true true h e = let s : n ≡ m = cc in let l = leb-true n most h in (omega arith, ap (λ v. read_in most v ds) s)
-more_go most n m ds true false h e = not_some m e
-more_go most n m ds false b h e = not_some m e
+more_go most n m ds true false h e = absurd (none-some m e)
+more_go most n m ds false b h e = absurd (none-some m e)
 
 stop_go : (most n : ℕ) (ds : List ℕ) (a b : Bool) → leb n most ≡ b → cond ((a && true) && b) (Some n) None ≡ None → ((a && all_ascii_digits ds) && leb (read_on n ds) most) ≡ false
-stop_go most n ds true true h e = not_some n (sym e)
+stop_go most n ds true true h e = absurd (none-some n (sym e))
 stop_go most n ds true false h e =
     let l = leb-false n most h in
     let g = read_grows n ds in and_right (all_ascii_digits ds) (leb (read_on n ds) most) (lt-leb (read_on n ds) most (omega arith))
@@ -86,14 +83,10 @@ whole_of_text least most n small low high =
     let m = le-leb (read_on 0 (decimal n)) most (omega arith) in
     cond-true _ _ _ (and_from _ _ (and_from _ _ first (digits_decimal own n small)) (and_from _ _ l m)) ∙ ap Some v
 
-whole_go : (n v : ℕ) (b : Bool) → cond b (Some v) None ≡ Some n → (b ≡ true) × (v ≡ n)
-whole_go n v true e = (refl, cc)
-whole_go n v false e = not_some n e
-
 -- the number that digits write has just these
 text_of_whole : (least most : ℕ) (ds : List ℕ) (n : ℕ) → most < 2 ^ 64 → whole_in least most ds ≡ Some n → (decimal n ≡ ds) × (least ≤ n) × (n ≤ most)
 text_of_whole least most ds n small e =
-    let g = whole_go n (read_on 0 ds) _ e in
+    let g = cond_some _ (read_on 0 ds) n e in
     let parts = and_parts (is_numeral ds) _ g.0 in
     let numeral = and_parts _ (all_ascii_digits ds) parts.0 in
     let first = first_back ds _ refl numeral.0 in
@@ -112,10 +105,10 @@ number_minus (b ∷ bs) some minus =
     cond-true _ _ _ (eq-eqb b 45 minus)
     ∙ ap (λ ds. option_map (λ n. negsuc (n - 1)) (whole_in 1 2147483648 ds)) (sym (take_all (length (b ∷ bs) - 1) bs (omega arith)))
 
--- a text that begins with another byte
-number_plain : (text : List ℕ) → 0 < length text → (get_or text 0 0 ≡ 45 → ⊥) → number_of text ≡ option_map pos (whole_in 0 2147483647 text)
-number_plain [] some plain = absurd (omega arith)
-number_plain (b ∷ bs) some plain = cond-false _ _ _ (ne_eqb b 45 plain)
+-- a text that does not
+number_plain : (text : List ℕ) → (get_or text 0 0 ≡ 45 → ⊥) → number_of text ≡ option_map pos (whole_in 0 2147483647 text)
+number_plain [] plain = refl
+number_plain (b ∷ bs) plain = cond-false _ _ _ (ne_eqb b 45 plain)
 
 -- each number of the signal range is what its text writes
 pub number_of_text : (z : ℤ) → IsSignal z → number_of (signed_decimal z) ≡ Some z
@@ -123,14 +116,14 @@ number_of_text (pos n) s =
     let high : n ≤ 2147483647 = let h = s.below in omega (arith, ints) in
     let some = decimal_nonempty n (omega arith) in
     let first = decimal_bytes n (omega arith) 0 some in
-    number_plain (decimal n) some (λ e. omega (arith, first.0)) ∙ ap (option_map pos) (whole_of_text 0 2147483647 n (omega arith) (omega arith) high)
+    number_plain (decimal n) (λ e. omega (arith, first.0)) ∙ ap (option_map pos) (whole_of_text 0 2147483647 n (omega arith) (omega arith) high)
 number_of_text (negsuc n) s =
     let low : n ≤ 2147483647 = let h = s.above in omega (arith, ints) in
     let same : suc n - 1 ≡ n = omega arith in
     ap (option_map (λ m. negsuc (m - 1))) (whole_of_text 1 2147483648 (suc n) (omega arith) (omega arith) (omega arith)) ∙ ap (λ m. Some (negsuc m)) same
 
 mapped_some : (f : ℕ → ℤ) (o : Option ℕ) (z : ℤ) → option_map f o ≡ Some z → (n : ℕ) × (o ≡ Some n) × (f n ≡ z)
-mapped_some f None z e = not_some z e
+mapped_some f None z e = absurd (none-some z e)
 mapped_some f (Some n) z e = (n, refl, cc)
 
 minus_go : (n : ℕ) (z : ℤ) → negsuc (n - 1) ≡ z → 1 ≤ n → n ≤ 2147483648 → IsSignal z × (signed_decimal z ≡ 45 ∷ decimal n)
@@ -158,13 +151,13 @@ text_go b bs z false h e =
 
 -- a text that writes a number is this number's text
 pub text_of_number : (text : List ℕ) (z : ℤ) → number_of text ≡ Some z → IsSignal z × (signed_decimal z ≡ text)
-text_of_number [] z e = not_some z e
+text_of_number [] z e = absurd (none-some z e)
 text_of_number (b ∷ bs) z e = text_go b bs z (eqb b 45) refl e
 
 -- a result that is what the text writes is what it says
 pub says_so : (text : List ℕ) (r : Option ℤ) → r ≡ number_of text → Says text r
 says_so text (Some z) e = text_of_number text z (sym e)
-says_so text None e = λ z s h. not_some z (e ∙ (ap number_of (sym h) ∙ number_of_text z s))
+says_so text None e = λ z s h. none-some z (e ∙ (ap number_of (sym h) ∙ number_of_text z s))
 
 -- a text says the number that it writes
 pub says : (text : List ℕ) → Says text (number_of text)

@@ -3,22 +3,25 @@ ghost use Rattle.wiring.specs.Codes.{code_of};
 
 use super::port::Port;
 use refusal::Code;
+use thiserror::Error;
 
 /// Why a wire is refused, with its input as given.
-#[derive(Clone, Copy, PartialEq, Eq, Debug)]
+#[derive(Clone, Copy, PartialEq, Eq, Debug, Error)]
 pub enum WireFault {
     /// A unit is over 15 or a port over 7, at either end.
+    #[error("unit {}, input {}: a unit is over 15 or a port over 7", .0.unit, .0.port)]
     OutOfRange(Port),
     /// The input has a wire already.
+    #[error("unit {}, input {}: the input is wired already", .0.unit, .0.port)]
     WiredTwice(Port),
 }
 
-impl WireFault {
-    /// The refusal by its numbers.
-    pub fn code(self) -> Code
-        ensures { result ≡ code_of self }
-    {
-        let (number, to) = match self {
+/// The refusal by its numbers.
+impl From<WireFault> for Code {
+    ghost from_gives = { λ fault code. code ≡ code_of fault };
+
+    fn from(fault: WireFault) -> Code {
+        let (number, to) = match fault {
             WireFault::OutOfRange(to) => (18, to),
             WireFault::WiredTwice(to) => (19, to),
         };

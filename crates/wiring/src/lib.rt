@@ -4,4 +4,3 @@
 pub mod fault;
 pub mod port;
 pub mod table;
-pub mod words;

@@ -1,15 +1,15 @@
-ghost use Rattle.std.specs.Prelude.{◌≡◌, ℕ, None, Decides};
+ghost use Rattle.std.specs.Prelude.{◌≡◌, ℕ, ◌≤◌, None, Decides};
 ghost use Rattle.wiring.specs.Wires.{source_of, InRange, OneMore, Added};
 
 use super::Wiring;
 use crate::fault::WireFault;
 use crate::port::Port;
 
-/// Whether both ends of a wire are within 16 units of 8 ports.
-fn in_range(from: Port, to: Port) -> bool
-    ensures { Decides result (InRange from to) }
+/// Whether a port is within 16 units of 8 ports.
+fn in_range(port: Port) -> bool
+    ensures { Decides result ((port.unit ≤ 15) × (port.port ≤ 7)) }
 {
-    from.unit <= 15 && from.port <= 7 && to.unit <= 15 && to.port <= 7
+    port.unit <= 15 && port.port <= 7
 }
 
 impl Wiring {
@@ -30,6 +30,7 @@ impl Wiring {
     }
 
     /// Writes a wire into the table, over any earlier one.
+    #[tactic(auto, using(crate::proofs::Rows::still_full))]
     fn put(&mut self, from: Port, to: Port)
         requires { InRange from to }
         ensures { OneMore self.old from to self.new }
@@ -41,7 +42,7 @@ impl Wiring {
     pub fn add(&mut self, from: Port, to: Port) -> Result<(), WireFault>
         ensures { Added self.old from to result self.new }
     {
-        if !in_range(from, to) {
+        if !(in_range(from) && in_range(to)) {
             return Err(WireFault::OutOfRange(to));
         }
         if self.source(to).is_some() {
@@ -55,10 +56,6 @@ impl Wiring {
     pub fn source(&self, to: Port) -> Option<Port>
         ensures { result ≡ source_of self.now to.unit to.port }
     {
-        let Port { unit, port } = to;
-        if unit > 15 || port > 7 {
-            return None;
-        }
-        self.rows[unit][port]
+        *self.rows.get(to.unit)?.get(to.port)?
     }
 }

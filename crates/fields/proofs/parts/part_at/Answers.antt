@@ -1,0 +1,9 @@
+use Rattle.std.proofs.Common.{eqb, rules, tests}
+use Rattle.std.proofs.lemmas.Iterator.Consumers.{nth_from_yields_List}
+use Rattle.std.proofs.lemmas.Iterator.Splits.{YieldsList-from_slice_split}
+use Rattle.fields.proofs.parts.part_at.Goals as goal
+
+pub returns : goal.returns
+returns c =
+    nth_from_yields_List _ _ c.args.index c.nth.ensures.ran
+    (YieldsList-from_slice_split _ (λ b. eqb b c.args.sep) c.args.text.now c.split.ensures.rest c.split.ensures.done c.split.ensures.closure (λ x b q k. search (rules, tests)))
