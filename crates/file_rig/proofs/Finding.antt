@@ -1,47 +1,34 @@
--- Looking for a name, and one record more.
-use Rattle.std.proofs.Common.{◌≡◌, ℕ, ◌+◌, ◌<◌, ◌≤◌, Bool, true, false, List, [], ◌∷◌, ◌++◌, map, length, get_or, None, Decides, sym, refl, ap, ◌∙◌, arith, below_more}
+-- Looking for a name in a list of units.
+use Rattle.std.proofs.Common.{◌≡◌, ℕ, ◌<◌, List, [], ◌∷◌, map, length, get_or, Some, None, Option, MatchOption, ◌≢◌, sym, refl, ap, ◌∙◌, subst, arith}
+use Rattle.std.specs.List.{AllWithin, HoldsAt}
 use Rattle.std.proofs.lemmas.List.{length-map, get_or-map}
-use Rattle.kinds.specs.declared.body.Body.{Body}
-use Rattle.rig.specs.Units.{fresh_unit}
-use Rattle.kinds.specs.Contents.{rules_of, kind_of, held_of}
-use Rattle.memory.specs.Kept.{Fresh}
-use Rattle.names.specs.declared.name.Name.{Name}
-use Rattle.names.specs.Names.{text_of}
-use Rattle.file_rig.specs.declared.unit.FileUnit.{FileUnit}
-use Rattle.file_rig.specs.Record.{unit_of}
-use Rattle.file_rig.specs.Table.{units_in, name_of, names_in}
-use Rattle.file_rig.specs.Adding.{FoundAt, Extended}
+use Rattle.rig.proofs.Calling.{nth_some}
+use Rattle.file_rig.specs.Adding.{FoundAt}
 
-module _ (xs : List FileUnit) (u : ℕ) (x : FileUnit) (inside : u < length xs) (read : x ≡ get_or xs u x) (name : List ℕ) (b : Bool) (same : Decides b (name_of x ≡ name)) where
-  name_read : get_or (names_in xs) u [] ≡ name_of x
-  name_read = get_or-map name_of xs u x [] inside ∙ ap name_of (sym read)
+map_twice : {X Y Z : Type 0} (f : X → Y) (g : Y → Z) (xs : List X) → map (λ x. g (f x)) xs ≡ map g (map f xs)
+map_twice f g [] = refl
+map_twice f g (x ∷ xs) = ap (λ zs. g (f x) ∷ zs) (map_twice f g xs)
 
-  abbrev pub NotBelow : Type 0
-  NotBelow = (k : ℕ) → k < u → get_or (names_in xs) k [] ≡ name → ⊥
+module _ {X Y : Type 0} (f : X → Y) (text : Y → List ℕ) (xs : List X) (name : List ℕ) where
+  -- the first unit whose text is the name
+  abbrev pub IsFirst : Option ℕ → Type 0
+  IsFirst r = MatchOption r (AllWithin (λ x. text (f x) ≢ name) xs 0 (length xs)) (λ u. (u < length xs) × HoldsAt (λ x. text (f x) ≡ name) xs u × AllWithin (λ x. text (f x) ≢ name) xs 0 u)
 
-  pub found_here : b ≡ true → NotBelow → (u < length (names_in xs)) × (get_or (names_in xs) u [] ≡ name) × NotBelow
-  found_here t below = (simp length-map inside, name_read ∙ same.0 t, below)
+  abbrev pub texts : List (List ℕ)
+  texts = map (λ x. text (f x)) xs
 
-  pub not_here : b ≡ false → NotBelow → (k : ℕ) → k < u + 1 → get_or (names_in xs) k [] ≡ name → ⊥
-  not_here f below = below_more (λ k. get_or (names_in xs) k [] ≡ name → ⊥) u below
-      (λ e. let t : b ≡ true = same.1 (sym name_read ∙ e) in let z : ◌≡◌ {A = ℕ} 0 1 = cc in omega arith)
+  text_at : (k : ℕ) (x : X) → k < length xs → get_or texts k [] ≡ text (f (get_or xs k x))
+  text_at k x l = get_or-map (λ x. text (f x)) xs k x [] l
 
--- past the last unit no name is left
-pub not_found : (xs : List FileUnit) (u : ℕ) (name : List ℕ) → length xs ≤ u → ((k : ℕ) → k < u → get_or (names_in xs) k [] ≡ name → ⊥) → FoundAt (names_in xs) name None
-not_found xs u name past below = λ k l e. below k (omega (arith, simp length-map at l)) e
+  not_at : (k : ℕ) → k < length xs → ((x : X) → text (f (get_or xs k x)) ≢ name) → get_or texts k [] ≢ name
+  not_at k l other e = let p = nth_some xs k l in other p.0 (sym (text_at k p.0 l) ∙ e)
 
-map_push : {X Y : Type 0} (f : X → Y) (xs : List X) (x : X) → map f (xs ++ x ∷ []) ≡ map f xs ++ f x ∷ []
-map_push f [] x = refl
-map_push f (y ∷ xs) x = ap (λ z. f y ∷ z) (map_push f xs x)
+  found : (r : Option ℕ) → IsFirst r → FoundAt texts name r
+  found None none = λ k l. let m : k < length xs = omega (arith, length-map xs (λ x. text (f x)), l) in not_at k m (λ x. none k x (omega arith) m)
+  found (Some u) w =
+      let p = nth_some xs u w.0 in
+      let inside : u < length texts = omega (arith, length-map xs (λ x. text (f x)), w.0) in
+      (inside, text_at u p.0 w.0 ∙ w.1 p.0, λ k l. not_at k (omega (arith, l, w.0)) (λ x. w.2 k x (omega arith) l))
 
-fresh_unit_lem : (x : FileUnit) (b : Body) → x.kind ≡ kind_of b → Fresh b x.memory → unit_of x ≡ fresh_unit (rules_of (kind_of b)) (held_of b)
-fresh_unit_lem x b e f = let h = f.held in let p = f.places in rw (e, h, p)
-
--- a record at the end of the table is a unit more
-pub extended : (xs ys : List FileUnit) (x : FileUnit) (name : Name) (b : Body) → ys ≡ xs ++ x ∷ [] → x.name ≡ name → x.kind ≡ kind_of b → Fresh b x.memory
-    → Extended xs (text_of name) (fresh_unit (rules_of (kind_of b)) (held_of b)) ys
-extended xs ys x name b e n k f =
-    record {
-      units = ap units_in e ∙ map_push unit_of xs x ∙ ap (λ z. units_in xs ++ z ∷ []) (fresh_unit_lem x b k f);
-      names = ap names_in e ∙ map_push name_of xs x ∙ ap (λ z. names_in xs ++ text_of z ∷ []) n;
-    }
+  pub found_first : (r : Option ℕ) → IsFirst r → FoundAt (map text (map f xs)) name r
+  found_first r w = subst (λ ns. FoundAt ns name r) (map_twice f text xs) (found r w)

@@ -1,4 +1,2 @@
-pub mod OneKind
-pub mod Lending
 pub mod Finding
-pub mod Describe
+pub mod Describing

@@ -1,5 +1,4 @@
-pub mod Kinds
-pub mod Record
+pub mod Faults
 pub mod Table
 pub mod Adding
 pub mod Describing

@@ -1,16 +1,14 @@
-ghost use Rattle.std.specs.Prelude.{ℕ, ◌≤◌, vec_len};
+use kinds::kind::Kind;
+use names::name::Name;
+use unit_rig::list::UnitRig;
+use unit_rig::unit::Unit;
 
-use super::unit::FileUnit;
-
-/// A rig of up to 16 units in one table, numbered in the order in which they were added.
+/// A rig of up to 16 units in one table, numbered in the order in which they were added. Each is called by its name.
 #[derive(Drop)]
 pub struct FileRig {
-    units: Vec<FileUnit>,
-    ghost few: { vec_len units ≤ 16 },
+    table: UnitRig<Unit<Name, Kind>>,
 }
 
 pub mod adding;
 pub mod calls;
 pub mod fault;
-mod lending;
-pub mod words;

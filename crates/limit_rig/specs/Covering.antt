@@ -8,12 +8,16 @@ use Rattle.rig.specs.Laws.{SuitsIn, SoundUnit, Sound}
 use Rattle.limit_rig.specs.Limits.{rules_under, unit_under, units_under, UnitBeneath, Beneath}
 use Rattle.limit_rig.specs.Limiting.{length_under, nth_under}
 
--- no flag set
+-- no flag set, of any number of flags
 pub none_flagged : {S : Type 0} (m n : ℕ) (us : List (RigUnit S)) → units_under m (replicate n false) us ≡ map (unit_under m false) us
 none_flagged m zero [] = refl
 none_flagged m (suc n) [] = refl
 none_flagged m zero (x ∷ us) = ap (λ z. unit_under m false x ∷ z) (none_flagged m zero us)
 none_flagged m (suc n) (x ∷ us) = ap (λ z. unit_under m false x ∷ z) (none_flagged m n us)
+
+-- no unit loose by its flag
+pub unflagged : {S : Type 0} (m : ℕ) (us : List (RigUnit S)) → units_under m (replicate 16 false) us ≡ map (unit_under m false) us
+unflagged m us = none_flagged m 16 us
 
 -- what is below
 unit_beneath : {S : Type 0} (m : ℕ) (f : Bool) (x : RigUnit S) → UnitBeneath m x (unit_under m f x)
@@ -46,10 +50,7 @@ module _ {S : Type 0} (m : ℕ) (k : Rules S) where
 sound_unit : {S : Type 0} (m : ℕ) (f : Bool) (x : RigUnit S) → SoundUnit x → SoundUnit (unit_under m f x)
 sound_unit m f x s =
     record {
-      inputs = s.inputs;
-      outputs = s.outputs;
-      masks = s.masks;
-      reads = s.reads;
+      rules = record { inputs = s.rules.inputs; outputs = s.rules.outputs; masks = s.rules.masks; reads = s.rules.reads };
       four = s.four;
       held = suits_flagged m x.rules f x.held s.held;
       kept = all_suit m x.rules x.places s.kept;

@@ -35,10 +35,6 @@ pub record Beneath {S : Type 0} (most : ℕ) (below under : List (RigUnit S)) : 
   pub count : length below ≡ length under
   pub each : (u : ℕ) (x y : RigUnit S) → slice_get below u ≡ Some x → slice_get under u ≡ Some y → UnitBeneath most x y
 
--- a step that a rig may take, above the limit
-abbrev pub exceeds : ℕ → ℕ → Bool
-exceeds most h = nat_lt most h && nat_le h 1000000
-
 -- whether a unit has an input, and an output, with this number
 abbrev pub input_in : {S : Type 0} → ℕ → Option (RigUnit S) → Bool
 input_in port None = false

@@ -3,6 +3,7 @@ ghost use Rattle.std.specs.Prelude.{◌≡◌, ℕ, ◌≤◌, length};
 use rig::Rig;
 
 /// A rig whose steps are held to a limit; a flag marks a unit that a step above the limit left loose.
+// The flags are an array beside the rig: units lie below, and that there are at most 16 is a rule of the project.
 #[derive(Drop)]
 pub struct Limit<R: Rig> {
     below: R,
@@ -15,7 +16,4 @@ pub struct Limit<R: Rig> {
 
 pub mod calls;
 mod causes;
-mod flags;
 pub mod making;
-mod steps;
-mod under;

@@ -1,20 +1,18 @@
 -- A call of one of two rigs, as a call of the pair.
 use Rattle.std.specs.Prelude.{◌≡◌, ℕ, zero, suc, ◌+◌, ◌<◌, ◌≤◌, min, List, [], ◌∷◌, ◌++◌, length, take, Some, None, Ok, Err, Option, Result, slice_set, refl}
-use Rattle.std.proofs.Common.{sym, ap, ◌∙◌, subst, arith, length-append}
+use Rattle.std.proofs.Common.{sym, ap, ◌∙◌, arith, length-append}
 use Rattle.std.specs.List.{slice_get, AllByRecursion}
 use Rattle.std.proofs.lemmas.List.{length-take}
+use Rattle.std.proofs.lemmas.Option.{slice_get_past}
 use Rattle.rig.specs.declared.cause.Cause.{Cause}
-use Rattle.rig.specs.declared.cause.Cause.TheVariants.{NoSuch}
 use Rattle.rig.specs.declared.cause.Target.{Target}
-use Rattle.rig.specs.declared.cause.RigFault.{RigFault}
 use Rattle.rig.specs.Units.{RigUnit}
 use Rattle.rig.specs.Laws.{Sound, SoundUnit}
-use Rattle.rig.specs.Calls.{Call, Called, answer_of, answer_in, blamed, renumbered, after_in, unit_after}
-use Rattle.rig.proofs.Calling.{answer_missing, called_missing}
-use Rattle.pair_rig.specs.Joined.{joined, CalledAs}
+use Rattle.rig.specs.Calls.{Call, blamed, renumbered, units_after, after_in, unit_after}
+use Rattle.pair_rig.specs.Joined.{joined}
 
 -- an element of the first list, and of the second
-nth_left : {X : Type 0} (n : ℕ) (xs ys : List X) (u : ℕ) → u < length xs → length xs ≤ n → slice_get (take n (xs ++ ys)) u ≡ slice_get xs u
+nth_left : {X : Type 0} (n : ℕ) (xs ys : List X) (u : ℕ) → u < length xs → u < n → slice_get (take n (xs ++ ys)) u ≡ slice_get xs u
 nth_left n [] ys u h l = absurd (omega arith)
 nth_left zero (x ∷ xs) ys u h l = absurd (omega arith)
 nth_left (suc n) (x ∷ xs) ys zero h l = refl
@@ -52,7 +50,7 @@ set_right (x ∷ xs) ys zero v y e = absurd (omega arith)
 set_right (x ∷ xs) ys (suc u) v y e = ap (λ z. x ∷ z) (set_right xs ys u v y (omega arith))
 
 -- a fault renumbered is the fault of the unit with that number
-renumbered_blamed : {T : Type 0} (u v : ℕ) (t : Target) (r : Result T Cause) → renumbered u (blamed v t r) ≡ blamed u t r
+pub renumbered_blamed : {T : Type 0} (u v : ℕ) (t : Target) (r : Result T Cause) → renumbered u (blamed v t r) ≡ blamed u t r
 renumbered_blamed u v t (Ok x) = refl
 renumbered_blamed u v t (Err e) = refl
 
@@ -62,58 +60,36 @@ after_through : {S T : Type 0} (k : Call S T) (us vs : List (RigUnit S)) (u v : 
 after_through k us vs u v F None e f = e
 after_through k us vs u v F (Some x) e f = sym (f (unit_after k x (k.answer x)))
 
--- the first rig has unit u
-module _ {S T : Type 0} (k : Call S T) (xs ys : List (RigUnit S)) (u : ℕ) {n : ℕ} (count : n ≡ length xs) (inside : u < n) (sound : Sound xs) where
-  at_first : slice_get (joined xs ys) u ≡ slice_get xs u
-  at_first = nth_left 16 xs ys u (omega arith) sound.few
-
-  pub answer_first : {r : Result T RigFault} → r ≡ answer_of k xs u → r ≡ answer_of k (joined xs ys) u
-  answer_first e = e ∙ ap (λ o. blamed u k.target (answer_in k o)) (sym at_first)
-
-  pub called_first : {r : Result T RigFault} {zs : List (RigUnit S)} → Called k xs u r zs → Called k (joined xs ys) u r (joined zs ys)
-  called_first {r} {zs} d =
-      record {
-        answer = answer_first d.answer;
-        units = ap (λ z. joined z ys) d.units
-            ∙ after_through k (joined xs ys) xs u u (λ z. joined z ys) (slice_get xs u) refl (λ y. set_take 16 (xs ++ ys) u y ∙ ap (take 16) (set_left xs ys u y (omega arith)))
-            ∙ ap (after_in k (joined xs ys) u) (sym at_first);
-      }
-
--- the second rig has unit u, as its unit v
-module _ {S T : Type 0} (k : Call S T) (xs ys : List (RigUnit S)) (u v : ℕ) {n : ℕ} (count : n ≡ length xs) (inside : (u ≡ n + v) × (u < 16)) where
-  number : u ≡ length xs + v
-  number = omega (arith, inside.0)
-
-  at_second : slice_get (joined xs ys) u ≡ slice_get ys v
-  at_second = nth_right 16 xs ys u v number inside.1
-
-  pub answer_second : {r : Result T RigFault} → r ≡ renumbered u (answer_of k ys v) → r ≡ answer_of k (joined xs ys) u
-  answer_second e = e ∙ renumbered_blamed u v k.target (answer_in k (slice_get ys v)) ∙ ap (λ o. blamed u k.target (answer_in k o)) (sym at_second)
-
-  pub called_second : {r : Result T RigFault} {zs : List (RigUnit S)} → CalledAs k ys v u r zs → Called k (joined xs ys) u r (joined xs zs)
-  called_second {r} {zs} d =
-      record {
-        answer = answer_second d.answer;
-        units = ap (joined xs) d.units
-            ∙ after_through k (joined xs ys) ys u v (joined xs) (slice_get ys v) refl (λ y. set_take 16 (xs ++ ys) u y ∙ ap (take 16) (set_right xs ys u v y number))
-            ∙ ap (after_in k (joined xs ys) u) (sym at_second);
-      }
-
 few_joined : {S : Type 0} (xs ys : List (RigUnit S)) → length (joined xs ys) ≤ 16
 few_joined xs ys = simp length-take (omega arith)
 
--- neither rig has unit u
-module _ {S T : Type 0} (k : Call S T) (xs ys : List (RigUnit S)) (u : ℕ) (past : 16 ≤ u) {f : RigFault} (e : f ≡ record { cause = NoSuch; unit = u; target = k.target }) where
-  pub answer_neither : Err f ≡ answer_of k (joined xs ys) u
-  answer_neither = ap (λ z. Err z) e ∙ answer_missing k (joined xs ys) u (omega (arith, few_joined xs ys))
+-- unit u of a pair, and the units after a call of it: the first rig has it, or the second, or neither
+pub first_at : {S : Type 0} (xs ys : List (RigUnit S)) (u : ℕ) → u < length xs → u < 16 → slice_get (joined xs ys) u ≡ slice_get xs u
+first_at xs ys u l m = nth_left 16 xs ys u l m
 
-  pub called_neither : Called k (joined xs ys) u (Err f) (joined xs ys)
-  called_neither =
-      subst (λ z. Called k (joined xs ys) u (Err z) (joined xs ys)) (sym e) (called_missing k (joined xs ys) u (omega (arith, few_joined xs ys)))
+pub first_after : {S T : Type 0} (k : Call S T) (xs ys : List (RigUnit S)) (u : ℕ) → u < length xs → u < 16 → units_after k (joined xs ys) u ≡ joined (units_after k xs u) ys
+first_after k xs ys u l m =
+    ap (after_in k (joined xs ys) u) (first_at xs ys u l m)
+    ∙ sym (after_through k (joined xs ys) xs u u (λ z. joined z ys) (slice_get xs u) refl (λ y. set_take 16 (xs ++ ys) u y ∙ ap (take 16) (set_left xs ys u y l)))
+
+pub second_at : {S : Type 0} (xs ys : List (RigUnit S)) (v : ℕ) → length xs + v < 16 → slice_get (joined xs ys) (length xs + v) ≡ slice_get ys v
+second_at xs ys v m = nth_right 16 xs ys (length xs + v) v refl m
+
+pub second_after : {S T : Type 0} (k : Call S T) (xs ys : List (RigUnit S)) (v : ℕ) → length xs + v < 16 → units_after k (joined xs ys) (length xs + v) ≡ joined xs (units_after k ys v)
+second_after k xs ys v m =
+    ap (after_in k (joined xs ys) (length xs + v)) (second_at xs ys v m)
+    ∙ sym (after_through k (joined xs ys) ys (length xs + v) v (joined xs) (slice_get ys v) refl
+    (λ y. set_take 16 (xs ++ ys) (length xs + v) y ∙ ap (take 16) (set_right xs ys (length xs + v) v y refl)))
+
+pub neither_at : {S : Type 0} (xs ys : List (RigUnit S)) (u : ℕ) → 16 ≤ u → slice_get (joined xs ys) u ≡ None
+neither_at xs ys u l = slice_get_past (joined xs ys) u (omega (arith, few_joined xs ys))
 
 -- how many units a pair has
 pub length_joined : {S : Type 0} (xs ys : List (RigUnit S)) → length (joined xs ys) ≡ min 16 (length xs + length ys)
 length_joined xs ys = length-take 16 (xs ++ ys) ∙ ap (min 16) (length-append xs ys)
+
+-- what the proofs of the calls of a pair go by
+pub ruleset joining = (first_at, first_after, second_at, second_after, renumbered_blamed, length_joined)
 
 -- a pair obeys the laws of a rig
 all_take : {X : Type 0} (P : X → Type 0) (n : ℕ) (xs ys : List X) → AllByRecursion P xs → AllByRecursion P ys → AllByRecursion P (take n (xs ++ ys))

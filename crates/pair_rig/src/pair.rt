@@ -11,9 +11,7 @@ pub struct Pair<P: Rig, Q: Rig<Signal = P::Signal>> {
 }
 
 pub mod calls;
-mod joined;
 mod owner;
-mod second;
 
 impl<P: Rig, Q: Rig<Signal = P::Signal>> Pair<P, Q> {
     /// The two rigs as one.

@@ -1,4 +1,5 @@
 pub mod Playing
-pub mod Trips
 pub mod Reading
+pub mod Trips
 pub mod Soundness
+pub mod Rigs

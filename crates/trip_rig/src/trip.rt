@@ -1,6 +1,7 @@
-ghost use Rattle.std.specs.Prelude.{ℕ, ◌≤◌};
+ghost use Rattle.std.specs.Prelude.{ℕ, ◌≤◌, length};
 
-use memory::store::Memory;
+use unit_rig::list::UnitRig;
+use unit_rig::unit::Unit;
 
 /// One pair of a trip: a value, and for how many ticks it lasts.
 #[derive(Clone, Copy)]
@@ -19,14 +20,19 @@ pub struct Position {
     ghost few: { left ≤ 1000000 },
 }
 
-/// A trip: its pairs, and where it stands. Without pairs it has no unit.
+/// The pairs of a trip.
+#[derive(Drop)]
+pub struct Trip {
+    segments: Vec<Segment>,
+}
+
+/// The rig of a trip: one unit that plays it, or none without a pair.
 #[derive(Drop)]
 pub struct TripRig {
-    segments: Vec<Segment>,
-    memory: Memory<Position>,
+    table: UnitRig<Unit<(), Trip>>,
+    ghost one: { length table.units.items ≤ 1 },
 }
 
 pub mod calls;
-mod moving;
-mod playing;
+pub mod playing;
 pub mod reading;

@@ -1,17 +1,19 @@
 // Making a file rig, unit by unit, and finding units by name.
-ghost use Rattle.std.specs.Prelude.{◌≡◌, ℕ, ◌<◌, ◌≤◌, [], length, nat_lt};
+ghost use Rattle.std.specs.Prelude.{◌≡◌, ◌≤◌, [], length, nat_lt};
 ghost use Rattle.file_rig.specs.Table.{units_of, names_of, name_at};
 ghost use Rattle.file_rig.specs.Adding.{FoundAt, Added};
 ghost use Rattle.file_rig.specs.Describing.{Described};
 
 use super::FileRig;
 use super::fault::AddFault;
-use super::lending::{count, design_at, find_in, name_at, push_unit};
 use kinds::body::Body;
 use kinds::design::Design;
 use names::name::Name;
-use rig::cause::RigFault;
+use rig::cause::{Cause, RigFault, Target};
 use std::alloc::Global;
+use unit_rig::calls::UnitCalls;
+use unit_rig::list::UnitRig;
+use unit_rig::unit::Unit;
 
 impl FileRig {
     /// A rig without units.
@@ -19,8 +21,8 @@ impl FileRig {
         ensures units { units_of result ≡ [] }
         ensures names { names_of result ≡ [] }
     {
-        let units = Vec::new(heap);
-        FileRig { units }
+        let table = UnitRig::from_units(Vec::new(heap));
+        FileRig { table }
     }
 
     /// Lets every unit go.
@@ -28,58 +30,62 @@ impl FileRig {
         ensures units { units_of self.new ≡ [] }
         ensures names { names_of self.new ≡ [] }
     {
-        self.units.clear();
+        self.table.clear();
     }
 
     /// Whether there is room for one more unit.
     pub fn has_room(&self) -> bool
         ensures { result ≡ nat_lt (length (names_of self.now)) 16 }
     {
-        count(&self.units) < 16
+        self.table.as_slice().len() < 16
     }
 
     /// The name of a unit.
     pub fn name(&self, unit: usize) -> Option<Name>
-        ensures { result ≡ name_at self.now.units.items unit }
+        ensures { result ≡ name_at self.now unit }
     {
-        name_at(&self.units, unit)
+        Some(self.table.as_slice().get(unit)?.label())
     }
 
     /// What a unit is and how it stands: the design by which it would be made now.
     pub fn design(&self, unit: usize) -> Result<Design, RigFault>
         ensures { Described (units_of self.now) unit result }
     {
-        design_at(&self.units, unit)
+        // `let .. else`, twice: over `ok_or` and `?` the last goal stayed open.
+        let Some(record) = self.table.as_slice().get(unit) else {
+            return Err(RigFault::new(Cause::NoSuch, unit, Target::Whole));
+        };
+        let Some(body) = record.contents() else {
+            return Err(RigFault::new(Cause::Loose, unit, Target::Whole));
+        };
+        Ok(body.design())
     }
 
     /// The number of the unit with this name.
     pub fn find(&self, name: &[u8]) -> Option<usize>
         ensures { FoundAt (names_of self.now) name.now result }
     {
-        find_in(&self.units, name)
+        self.table
+            .as_slice()
+            .iter()
+            .position(|record| record.label().is(name))
     }
 
     /// Adds a unit, and answers its number.
     pub fn add(&mut self, name: &[u8], design: Design) -> Result<usize, AddFault>
         ensures { Added self.old name.now design result self.new }
     {
-        let unit = self.units.len();
-        if unit >= 16 {
+        if !self.has_room() {
             return Err(AddFault::TableFull);
         }
-        let Some(proper) = Name::new(name) else {
-            return Err(AddFault::BadName);
-        };
-        if let Some(_) = self.find(name) {
+        let proper = Name::new(name).ok_or(AddFault::BadName)?;
+        if self.find(name).is_some() {
             return Err(AddFault::NameUsed);
         }
-        let body = match Body::new(design) {
-            Ok(body) => body,
-            Err(fault) => return Err(AddFault::BadDesign(fault)),
-        };
-        match push_unit(&mut self.units, proper, body) {
-            Ok(()) => Ok(unit),
-            Err(_) => Err(AddFault::NoMemory),
+        let body = Body::new(design)?;
+        match Unit::new(proper, body.kind(), body) {
+            Some(unit) => Ok(self.table.push(unit)?),
+            None => unreachable(),
         }
     }
 }

@@ -1,18 +1,15 @@
 // A file rig behind the interface of a rig.
-ghost use Rattle.std.specs.Prelude.{◌≡◌};
-ghost use Rattle.rig.specs.Calls.{Called, put, step, save, restore, free};
-ghost use Rattle.file_rig.specs.Table.{units_of, names_of};
+ghost use Rattle.rig.specs.Calls.{put, step, save, restore, free};
+ghost use Rattle.file_rig.specs.Table.{units_of, CalledUnderNames};
 ghost use Rattle.file_rig.specs.Soundness.{sound_table};
 
 use super::FileRig;
-use super::lending::{
-    count, free_at, get_at, mask_at, ports_at, put_at, restore_at, save_at, status_at, step_at,
-};
 use rig::Rig;
 use rig::cause::RigFault;
 use rig::shape::{Ports, Status};
 
-/// No call changes a name.
+/// Each call is the table's; what a file rig adds are the names, and no call changes one.
+// Not an alias of `UnitRig`: what `adding` has are methods, and a type of another crate takes none.
 impl Rig for FileRig {
     type Signal = i32;
 
@@ -21,57 +18,52 @@ impl Rig for FileRig {
     ghost sound = { sound_table };
 
     fn units(&self) -> usize {
-        count(&self.units)
+        self.table.units()
     }
 
     fn ports(&self, unit: usize) -> Result<Ports, RigFault> {
-        ports_at(&self.units, unit)
+        self.table.ports(unit)
     }
 
     fn mask(&self, unit: usize, port: usize) -> Result<u8, RigFault> {
-        mask_at(&self.units, unit, port)
+        self.table.mask(unit, port)
     }
 
     fn status(&self, unit: usize) -> Result<Status, RigFault> {
-        status_at(&self.units, unit)
+        self.table.status(unit)
     }
 
     fn put(&mut self, unit: usize, port: usize, value: i32) -> Result<(), RigFault>
-        ensures call { Called (put port value) (units_of self.old) unit result (units_of self.new) }
-        ensures names { names_of self.new ≡ names_of self.old }
+        ensures { CalledUnderNames (put port value) self.old unit result self.new }
     {
-        put_at(&mut self.units, unit, port, value)
+        self.table.put(unit, port, value)
     }
 
     fn get(&self, unit: usize, port: usize) -> Result<i32, RigFault> {
-        get_at(&self.units, unit, port)
+        self.table.get(unit, port)
     }
 
     fn step(&mut self, unit: usize, h: u32) -> Result<u32, RigFault>
-        ensures call { Called (step h) (units_of self.old) unit result (units_of self.new) }
-        ensures names { names_of self.new ≡ names_of self.old }
+        ensures { CalledUnderNames (step h) self.old unit result self.new }
     {
-        step_at(&mut self.units, unit, h)
+        self.table.step(unit, h)
     }
 
     fn save(&mut self, unit: usize, place: usize) -> Result<(), RigFault>
-        ensures call { Called (save place) (units_of self.old) unit result (units_of self.new) }
-        ensures names { names_of self.new ≡ names_of self.old }
+        ensures { CalledUnderNames (save place) self.old unit result self.new }
     {
-        save_at(&mut self.units, unit, place)
+        self.table.save(unit, place)
     }
 
     fn restore(&mut self, unit: usize, place: usize) -> Result<(), RigFault>
-        ensures call { Called (restore place) (units_of self.old) unit result (units_of self.new) }
-        ensures names { names_of self.new ≡ names_of self.old }
+        ensures { CalledUnderNames (restore place) self.old unit result self.new }
     {
-        restore_at(&mut self.units, unit, place)
+        self.table.restore(unit, place)
     }
 
     fn free(&mut self, unit: usize, place: usize) -> Result<(), RigFault>
-        ensures call { Called (free place) (units_of self.old) unit result (units_of self.new) }
-        ensures names { names_of self.new ≡ names_of self.old }
+        ensures { CalledUnderNames (free place) self.old unit result self.new }
     {
-        free_at(&mut self.units, unit, place)
+        self.table.free(unit, place)
     }
 }

@@ -1,13 +1,54 @@
 // A rig under a limit behind the interface of a rig.
-ghost use Rattle.limit_rig.specs.Limits.{units_under};
+ghost use Rattle.std.specs.Prelude.{◌≡◌, false, is_some, slice_index_or};
+ghost use Rattle.std.specs.List.{slice_get};
+ghost use Rattle.limit_rig.specs.Limits.{units_under, input_in, output_in};
 ghost use Rattle.limit_rig.specs.Covering.{sound_under};
 
 use super::Limit;
+use super::causes::{loose_if, step_cause};
 use rig::Rig;
-use rig::cause::RigFault;
+use rig::cause::{RigFault, Target};
 use rig::shape::{Ports, Status};
 
+impl<R: Rig> Limit<R> {
+    /// Whether a unit is loose by its flag.
+    fn is_flagged(&self, unit: usize) -> bool
+        ensures { result ≡ slice_index_or self.now.flags unit false }
+    {
+        self.flags.get(unit).copied().unwrap_or(false)
+    }
+
+    /// Whether there is such a unit.
+    #[tactic(auto, using(std::proofs::lemmas::Option::slice_get_past, std::proofs::lemmas::Option::slice_get_within))]
+    fn has_unit(&self, unit: usize) -> bool
+        ensures { result ≡ is_some (slice_get (R.Rig.model self.now.below) unit) }
+    {
+        unit < self.below.units()
+    }
+
+    /// Whether a unit has this input.
+    // Apart from `has_output`: each says one rule, by its own definition.
+    fn has_input(&self, unit: usize, port: usize) -> bool
+        ensures { result ≡ input_in port (slice_get (R.Rig.model self.now.below) unit) }
+    {
+        self.below
+            .ports(unit)
+            .is_ok_and(|ports| port < ports.inputs)
+    }
+
+    /// Whether a unit has this output.
+    fn has_output(&self, unit: usize, port: usize) -> bool
+        ensures { result ≡ output_in port (slice_get (R.Rig.model self.now.below) unit) }
+    {
+        self.below
+            .ports(unit)
+            .is_ok_and(|ports| port < ports.outputs)
+    }
+}
+
+// Four calls ask first whether the unit is loose by its flag: each has a cause of its own to tell then.
 /// The units below, BOUND of each being at most the limit. A step above the limit leaves a unit loose.
+#[tactic(auto, using(crate::specs::Limiting::limiting))]
 impl<R: Rig> Rig for Limit<R> {
     type Signal = R::Signal;
 
@@ -16,42 +57,76 @@ impl<R: Rig> Rig for Limit<R> {
     ghost sound = { λ s. sound_under s.most s.flags (R.Rig.model s.below) (R.Rig.sound s.below) };
 
     fn units(&self) -> usize {
-        self.count_under()
+        self.below.units()
     }
 
     fn ports(&self, unit: usize) -> Result<Ports, RigFault> {
-        self.ports_under(unit)
+        self.below.ports(unit)
     }
 
     fn mask(&self, unit: usize, port: usize) -> Result<u8, RigFault> {
-        self.mask_under(unit, port)
+        self.below.mask(unit, port)
     }
 
+    /// Loose by the flag or below; the places are those below.
     fn status(&self, unit: usize) -> Result<Status, RigFault> {
-        self.status_under(unit)
+        let flag = self.is_flagged(unit);
+        let status = self.below.status(unit)?;
+        Ok(Status {
+            loose: flag || status.loose,
+            ..status
+        })
     }
 
+    /// Sets an input below, unless the flag is set.
     fn put(&mut self, unit: usize, port: usize, value: R::Signal) -> Result<(), RigFault> {
-        self.put_under(unit, port, value)
+        if self.is_flagged(unit) {
+            let cause = loose_if(self.has_input(unit, port));
+            return Err(RigFault::new(cause, unit, Target::Port(port)));
+        }
+        self.below.put(unit, port, value)
     }
 
+    /// Reads an output below, unless the flag is set.
     fn get(&self, unit: usize, port: usize) -> Result<R::Signal, RigFault> {
-        self.get_under(unit, port)
+        if self.is_flagged(unit) {
+            let cause = loose_if(self.has_output(unit, port));
+            return Err(RigFault::new(cause, unit, Target::Port(port)));
+        }
+        self.below.get(unit, port)
     }
 
+    /// Steps the unit below. A step above the limit takes the limit there, whose answer is the lesser bound, and sets the flag.
     fn step(&mut self, unit: usize, h: u32) -> Result<u32, RigFault> {
-        self.step_under(unit, h)
+        if self.is_flagged(unit) {
+            let cause = step_cause(self.has_unit(unit), h);
+            return Err(RigFault::new(cause, unit, Target::Whole));
+        }
+        if self.most < h && h <= 1_000_000 {
+            let bound = self.below.step(unit, self.most)?;
+            self.flags[unit] = true;
+            return Ok(bound);
+        }
+        self.below.step(unit, h)
     }
 
+    /// Saves below, unless the flag is set.
     fn save(&mut self, unit: usize, place: usize) -> Result<(), RigFault> {
-        self.save_under(unit, place)
+        if self.is_flagged(unit) {
+            let cause = loose_if(self.has_unit(unit) && place < 4);
+            return Err(RigFault::new(cause, unit, Target::Place(place)));
+        }
+        self.below.save(unit, place)
     }
 
+    /// Restores below, and clears the flag.
     fn restore(&mut self, unit: usize, place: usize) -> Result<(), RigFault> {
-        self.restore_under(unit, place)
+        self.below.restore(unit, place)?;
+        self.flags[unit] = false;
+        Ok(())
     }
 
     fn free(&mut self, unit: usize, place: usize) -> Result<(), RigFault> {
-        self.free_under(unit, place)
+        self.below.free(unit, place)
     }
 }

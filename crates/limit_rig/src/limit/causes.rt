@@ -15,11 +15,8 @@ pub(super) fn loose_if(there: bool) -> Cause
 pub(super) fn step_cause(there: bool, h: u32) -> Cause
     ensures { result ≡ step_cause there h }
 {
-    if !there {
-        return Cause::NoSuch;
-    }
-    if h < 1 || h > 1_000_000 {
+    if there && !(1..=1_000_000).contains(&h) {
         return Cause::StepRange;
     }
-    Cause::Loose
+    loose_if(there)
 }

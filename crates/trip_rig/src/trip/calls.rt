@@ -1,15 +1,14 @@
 // A trip behind the interface of a rig.
-ghost use Rattle.trip_rig.specs.Trips.{units_of};
-ghost use Rattle.trip_rig.specs.Soundness.{sound_trip};
+ghost use Rattle.trip_rig.specs.Rigs.{units_of, sound_trip};
 
 use super::TripRig;
-use super::playing::{
-    count, free_at, get_at, mask_at, ports_at, put_at, restore_at, save_at, status_at, step_at,
-};
 use rig::Rig;
 use rig::cause::RigFault;
 use rig::shape::{Ports, Status};
 
+/// Each call is that of the list with the one unit.
+// Not an alias of `UnitRig`: that there is at most one unit is a fact of this type.
+#[tactic(auto, using(unit_rig::proofs::Listing::lent_count))]
 impl Rig for TripRig {
     type Signal = i32;
 
@@ -18,42 +17,42 @@ impl Rig for TripRig {
     ghost sound = { sound_trip };
 
     fn units(&self) -> usize {
-        count(&self.segments)
+        self.table.units()
     }
 
     fn ports(&self, unit: usize) -> Result<Ports, RigFault> {
-        ports_at(&self.segments, &self.memory, unit)
+        self.table.ports(unit)
     }
 
     fn mask(&self, unit: usize, port: usize) -> Result<u8, RigFault> {
-        mask_at(&self.segments, &self.memory, unit, port)
+        self.table.mask(unit, port)
     }
 
     fn status(&self, unit: usize) -> Result<Status, RigFault> {
-        status_at(&self.segments, &self.memory, unit)
+        self.table.status(unit)
     }
 
     fn put(&mut self, unit: usize, port: usize, value: i32) -> Result<(), RigFault> {
-        put_at(&self.segments, &mut self.memory, unit, port, value)
+        self.table.put(unit, port, value)
     }
 
     fn get(&self, unit: usize, port: usize) -> Result<i32, RigFault> {
-        get_at(&self.segments, &self.memory, unit, port)
+        self.table.get(unit, port)
     }
 
     fn step(&mut self, unit: usize, h: u32) -> Result<u32, RigFault> {
-        step_at(&self.segments, &mut self.memory, unit, h)
+        self.table.step(unit, h)
     }
 
     fn save(&mut self, unit: usize, place: usize) -> Result<(), RigFault> {
-        save_at(&self.segments, &mut self.memory, unit, place)
+        self.table.save(unit, place)
     }
 
     fn restore(&mut self, unit: usize, place: usize) -> Result<(), RigFault> {
-        restore_at(&self.segments, &mut self.memory, unit, place)
+        self.table.restore(unit, place)
     }
 
     fn free(&mut self, unit: usize, place: usize) -> Result<(), RigFault> {
-        free_at(&self.segments, &mut self.memory, unit, place)
+        self.table.free(unit, place)
     }
 }

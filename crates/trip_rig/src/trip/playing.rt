@@ -1,185 +1,80 @@
-// Each call of a rig, made of the one unit of a trip.
-ghost use Rattle.std.specs.Prelude.{◌≡◌, ℕ, ◌≤◌};
-ghost use Rattle.rig.specs.Calls.{Called, UnitCalled, answer_of, ports, mask, status, put, get, step, save, restore, free};
-ghost use Rattle.trip_rig.specs.Trips.{player, players_of, count_of};
+// A trip as the behaviour of a unit: what it holds is where it stands.
+ghost use Rattle.std.specs.Prelude.{true};
+ghost use Rattle.trip_rig.specs.Playing.{trip};
+ghost use Rattle.trip_rig.specs.Trips.{held_at};
+ghost use Rattle.trip_rig.specs.Soundness.{sound_rules, suits_trip};
 
-use super::moving::moved;
-use super::{Position, Segment};
-use memory::store::Memory;
-use rig::cause::{Cause, RigFault, Target};
-use rig::numbering::blame;
-use rig::shape::{Ports, Status};
+use super::{Position, Trip};
+use rig::behaviour::Behaviour;
 
-/// How many units a trip of these pairs has: one, or none without a pair.
-pub(super) fn count(segments: &[Segment]) -> usize
-    ensures { result ≡ count_of segments.now }
-{
-    match segments {
-        [] => 0,
-        [_, ..] => 1,
+/// One output, the present value, and no input.
+impl Behaviour for Trip {
+    type Signal = i32;
+
+    type Contents = Position;
+
+    ghost rules = { λ t. trip };
+
+    ghost read = { λ t p. held_at t.segments.items p };
+
+    ghost owns = { λ t p. true };
+
+    ghost sound = { λ t. sound_rules };
+
+    ghost suits = { λ t p own. suits_trip t.segments.items p };
+
+    fn fits(&self, _: Position) -> bool {
+        true
     }
-}
 
-/// The mask of the one output, which reads no input.
-fn mask_player(segments: &[Segment], memory: &Memory<Position>, port: usize) -> Result<u8, Cause>
-    ensures { result ≡ (mask port).answer (player segments.now memory.now) }
-{
-    if port >= 1 { Err(Cause::NoSuch) } else { Ok(0) }
-}
-
-/// The present value.
-fn get_player(segments: &[Segment], memory: &Memory<Position>, port: usize) -> Result<i32, Cause>
-    ensures { result ≡ (get port).answer (player segments.now memory.now) }
-{
-    if port >= 1 {
-        return Err(Cause::NoSuch);
+    fn inputs(&self) -> usize {
+        0
     }
-    let Some(position) = memory.held else {
-        return Err(Cause::Loose);
-    };
-    Ok(position.value)
-}
 
-/// h ticks further, or loose where fewer are left in the pair.
-fn step_player(segments: &[Segment], memory: &mut Memory<Position>, h: u32) -> Result<u32, Cause>
-    ensures { UnitCalled (step h) (player segments.now memory.old) result (player segments.now memory.new) }
-{
-    if h < 1 || h > 1_000_000 {
-        return Err(Cause::StepRange);
+    fn outputs(&self) -> usize {
+        1
     }
-    let Some(position) = memory.held else {
-        return Err(Cause::Loose);
-    };
-    memory.held = moved(segments, position, h);
-    Ok(if position.left < h { position.left } else { h })
-}
 
-pub(super) fn ports_at(
-    segments: &[Segment],
-    memory: &Memory<Position>,
-    unit: usize,
-) -> Result<Ports, RigFault>
-    ensures { result ≡ answer_of ports (players_of segments.now memory.now) unit }
-{
-    if unit >= count(segments) {
-        return Err(RigFault::new(Cause::NoSuch, unit, Target::Whole));
+    fn mask(&self, port: usize) -> Option<u8> {
+        (port == 0).then_some(0)
     }
-    Ok(Ports {
-        inputs: 0,
-        outputs: 1,
-    })
-}
 
-pub(super) fn mask_at(
-    segments: &[Segment],
-    memory: &Memory<Position>,
-    unit: usize,
-    port: usize,
-) -> Result<u8, RigFault>
-    ensures { result ≡ answer_of (mask port) (players_of segments.now memory.now) unit }
-{
-    if unit >= count(segments) {
-        return Err(RigFault::new(Cause::NoSuch, unit, Target::Port(port)));
+    fn out(&self, position: Position, _: usize) -> i32 {
+        position.value
     }
-    blame(
-        mask_player(segments, memory, port),
-        unit,
-        Target::Port(port),
-    )
-}
 
-pub(super) fn status_at(
-    segments: &[Segment],
-    memory: &Memory<Position>,
-    unit: usize,
-) -> Result<Status, RigFault>
-    ensures { result ≡ answer_of status (players_of segments.now memory.now) unit }
-{
-    if unit >= count(segments) {
-        return Err(RigFault::new(Cause::NoSuch, unit, Target::Whole));
+    fn bound(&self, position: Position) -> u32 {
+        position.left
     }
-    Ok(memory.status())
-}
 
-pub(super) fn get_at(
-    segments: &[Segment],
-    memory: &Memory<Position>,
-    unit: usize,
-    port: usize,
-) -> Result<i32, RigFault>
-    ensures { result ≡ answer_of (get port) (players_of segments.now memory.now) unit }
-{
-    if unit >= count(segments) {
-        return Err(RigFault::new(Cause::NoSuch, unit, Target::Port(port)));
+    /// h ticks further, or none where fewer are left in the pair. Where none is left the next pair is at once the present one.
+    fn next(&self, position: Position, h: u32) -> Option<Position> {
+        if h > position.left {
+            return None;
+        }
+        // No `..position`: beside a ghost field it is refused.
+        if h < position.left {
+            return Some(Position {
+                left: position.left - h,
+                value: position.value,
+                later: position.later,
+            });
+        }
+        Some(match self.segments.get(position.later) {
+            Some(segment) => Position {
+                left: segment.ticks,
+                value: segment.value,
+                later: position.later + 1,
+            },
+            None => Position {
+                left: 0,
+                value: position.value,
+                later: position.later,
+            },
+        })
     }
-    blame(get_player(segments, memory, port), unit, Target::Port(port))
-}
 
-pub(super) fn step_at(
-    segments: &[Segment],
-    memory: &mut Memory<Position>,
-    unit: usize,
-    h: u32,
-) -> Result<u32, RigFault>
-    ensures { Called (step h) (players_of segments.now memory.old) unit result (players_of segments.now memory.new) }
-{
-    if unit >= count(segments) {
-        return Err(RigFault::new(Cause::NoSuch, unit, Target::Whole));
+    fn feed(&self, position: Position, _: usize, _: i32) -> Position {
+        position
     }
-    blame(step_player(segments, memory, h), unit, Target::Whole)
-}
-
-pub(super) fn save_at(
-    segments: &[Segment],
-    memory: &mut Memory<Position>,
-    unit: usize,
-    place: usize,
-) -> Result<(), RigFault>
-    ensures { Called (save place) (players_of segments.now memory.old) unit result (players_of segments.now memory.new) }
-{
-    if unit >= count(segments) {
-        return Err(RigFault::new(Cause::NoSuch, unit, Target::Place(place)));
-    }
-    blame(memory.save(place), unit, Target::Place(place))
-}
-
-pub(super) fn restore_at(
-    segments: &[Segment],
-    memory: &mut Memory<Position>,
-    unit: usize,
-    place: usize,
-) -> Result<(), RigFault>
-    ensures { Called (restore place) (players_of segments.now memory.old) unit result (players_of segments.now memory.new) }
-{
-    if unit >= count(segments) {
-        return Err(RigFault::new(Cause::NoSuch, unit, Target::Place(place)));
-    }
-    blame(memory.restore(place), unit, Target::Place(place))
-}
-
-pub(super) fn free_at(
-    segments: &[Segment],
-    memory: &mut Memory<Position>,
-    unit: usize,
-    place: usize,
-) -> Result<(), RigFault>
-    ensures { Called (free place) (players_of segments.now memory.old) unit result (players_of segments.now memory.new) }
-{
-    if unit >= count(segments) {
-        return Err(RigFault::new(Cause::NoSuch, unit, Target::Place(place)));
-    }
-    blame(memory.free(place), unit, Target::Place(place))
-}
-
-/// A trip has no input.
-pub(super) fn put_at(
-    segments: &[Segment],
-    memory: &mut Memory<Position>,
-    unit: usize,
-    port: usize,
-    value: i32,
-) -> Result<(), RigFault>
-    ensures { Called (put port value) (players_of segments.now memory.old) unit result (players_of segments.now memory.new) }
-{
-    Err(RigFault::new(Cause::NoSuch, unit, Target::Port(port)))
 }

@@ -1,63 +1,60 @@
 // A trip read from a caller's list.
-ghost use Rattle.std.specs.Prelude.{◌≡◌, ℕ, ◌+◌, ◌*◌, ◌≤◌, true, false, [], ◌∷◌, pos, IfOk, vec_len, MatchOption};
-ghost use Rattle.memory.specs.Kept.{Fresh};
-ghost use Rattle.trip_rig.specs.Reading.{are_ticks, read_pairs, new_trip};
-ghost use Rattle.trip_rig.specs.Trips.{flat, units_of, StartsAt};
+ghost use Rattle.std.specs.Prelude.{◌≡◌, IfOk};
+ghost use Rattle.trip_rig.specs.Reading.{read_pairs, new_trip};
+ghost use Rattle.trip_rig.specs.Trips.{flat, FirstPair, StartsAt};
+ghost use Rattle.trip_rig.specs.Rigs.{units_of};
 
-use super::{Position, Segment, TripRig};
-use memory::store::Memory;
+use super::{Position, Segment, Trip, TripRig};
 use std::alloc::{AllocError, Global};
+use unit_rig::list::UnitRig;
+use unit_rig::unit::Unit;
 
 /// A trip plays at most this many pairs.
 const MOST_PAIRS: usize = 4096;
 
-/// A pair, unless its ticks are not 1 to 1,000,000.
-fn segment(ticks: i32, value: i32) -> Option<Segment>
-    ensures { MatchOption result (are_ticks ticks ≡ false) (λ l. (are_ticks ticks ≡ true) × (pos l.ticks ≡ ticks) × (l.value ≡ value)) }
+/// The first pair of a list and what follows it; none before a half pair, and before ticks that are not 1 to 1,000,000.
+fn first_pair(numbers: &[i32]) -> Option<(Segment, &[i32])>
+    ensures { FirstPair numbers.now result }
 {
-    if ticks < 1 || ticks > 1_000_000 {
-        return None;
+    match numbers {
+        [ticks, value, later @ ..] if (1..=1_000_000).contains(ticks) => {
+            let segment = Segment {
+                ticks: ticks.unsigned_abs(),
+                value: *value,
+            };
+            Some((segment, later))
+        }
+        _ => None,
     }
-    Some(Segment {
-        ticks: ticks as u32,
-        value,
-    })
 }
 
 /// The pairs of a list, at most so many, up to the first that is none.
 fn read(heap: Global, numbers: &[i32], most: usize) -> Result<Vec<Segment>, AllocError>
-    requires { most ≤ 4096 }
     ensures { IfOk result (λ v. flat v.items ≡ read_pairs most numbers.now) }
 {
     let mut segments = Vec::new(heap);
+    let mut rest = numbers;
+    // `k` counts the turns alone: each takes the pair at the front of what is left.
     for k in 0..most {
-        if numbers.len() < 2 * k + 2 {
-            break;
-        }
-        let Some(segment) = segment(numbers[2 * k], numbers[2 * k + 1]) else {
+        let Some((segment, later)) = first_pair(rest) else {
             break;
         };
         segments.push(segment)?;
+        rest = later;
     }
     Ok(segments)
 }
 
 /// Where a trip of these pairs starts: at the first.
-fn start(segments: &[Segment]) -> Position
+fn start(segments: &[Segment]) -> Option<Position>
     ensures { StartsAt segments.now result }
 {
-    match segments {
-        [first, ..] => Position {
-            left: first.ticks,
-            value: first.value,
-            later: 1,
-        },
-        [] => Position {
-            left: 0,
-            value: 0,
-            later: 0,
-        },
-    }
+    let first = segments.first()?;
+    Some(Position {
+        left: first.ticks,
+        value: first.value,
+        later: 1,
+    })
 }
 
 impl TripRig {
@@ -66,7 +63,13 @@ impl TripRig {
         ensures { IfOk result (λ t. units_of t ≡ new_trip (read_pairs 4096 numbers.now)) }
     {
         let segments = read(heap, numbers, MOST_PAIRS)?;
-        let memory = Memory::new(start(&segments));
-        Ok(TripRig { segments, memory })
+        let mut units = Vec::new(heap);
+        if let Some(position) = start(&segments) {
+            if let Some(unit) = Unit::new((), Trip { segments }, position) {
+                units.push(unit)?;
+            }
+        }
+        let table = UnitRig::from_units(units);
+        Ok(TripRig { table })
     }
 }

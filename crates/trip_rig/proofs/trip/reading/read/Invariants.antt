@@ -1,7 +1,7 @@
-use Rattle.std.proofs.Common.{◌≡◌, ◌-◌, ◌*◌, ◌++◌, drop, vec_items}
+use Rattle.std.proofs.Common.{◌≡◌, ◌-◌, ◌++◌, vec_items}
 use Rattle.trip_rig.specs.Reading.{read_pairs}
 use Rattle.trip_rig.specs.Trips.{flat}
 use Rattle.trip_rig.proofs.trip.reading.read.Given as goal
 
 abbrev pub invariant-loop-k : goal.invariant-loop-k
-invariant-loop-k l = flat (vec_items l.segments) ++ read_pairs (l.most - l.k) (drop (2 * l.k) l.numbers) ≡ read_pairs l.most l.numbers
+invariant-loop-k l = flat (vec_items l.segments) ++ read_pairs (l.most - l.k) l.rest ≡ read_pairs l.most l.numbers

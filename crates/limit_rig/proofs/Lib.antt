@@ -1,2 +1,0 @@
-pub mod Stepping
-pub mod Flagging
