@@ -1,7 +1,7 @@
 -- The line at the cursor, by the first line feed of what is left of the file.
-use Rattle.std.proofs.Common.{◌≡◌, ℕ, suc, ◌+◌, ◌-◌, ◌≤◌, cond, List, [], ◌∷◌, length, take, drop, Some, None, Ok, Err, sym, refl, ap, ◌∙◌, arith}
+use Rattle.std.proofs.Common.{◌≡◌, ℕ, true, false, ◌==◌, suc, ◌+◌, ◌-◌, ◌≤◌, cond, List, [], ◌∷◌, length, take, drop, Some, None, Ok, Err, sym, refl, ap, ◌∙◌, arith}
 use Rattle.std.proofs.lemmas.List.{take_rest, nil_from_length, length-take-le, length-drop}
-use Rattle.std.proofs.lemmas.Bool.{ne_eqb}
+use Rattle.std.proofs.lemmas.Bool.{eqb-true}
 use Rattle.fields.specs.Parts.{parts, FirstAt}
 use Rattle.fields.proofs.Parting.{parts_first, parts_none, some_part}
 use Rattle.lines.specs.declared.fault.LineFault.TheVariants.{Letter}
@@ -16,22 +16,19 @@ module _ (p : Position) (rest : List ℕ) (is : rest ≡ take (length p.bytes - 
   left : rest ≡ drop p.at p.bytes
   left = is ∙ take_rest p.bytes p.at
 
-  pub front_end : length rest ≡ 0 → None ≡ front_of (ahead p)
-  front_end z = ap (λ s. front_of (parts 10 s)) (sym (nil_from_length rest z) ∙ left)
+  pub front_end : true ≡ (length rest == 0) → None ≡ front_of (ahead p)
+  front_end z = ap (λ s. front_of (parts 10 s)) (sym (nil_from_length rest (eqb-true (length rest) 0 (sym z))) ∙ left)
 
-  pub front_found : (n : ℕ) → FirstAt 10 rest (Some n) → Some (Ok (take (n - 0) rest)) ≡ front_of (ahead p)
+  pub front_found : (n : ℕ) → FirstAt 10 rest (Some n) → Some (Ok (take n rest)) ≡ front_of (ahead p)
   front_found n f =
-      let e : n - 0 ≡ n = omega arith in
-      ap (λ k. Some (Ok (take k rest))) e ∙ (sym (front_line (take n rest) (parts 10 (drop (suc n) rest)) (some_part 10 (drop (suc n) rest)))
-      ∙ (sym (ap front_of (parts_first 10 rest n f)) ∙ ap (λ s. front_of (parts 10 s)) left))
+      sym (front_line (take n rest) (parts 10 (drop (suc n) rest)) (some_part 10 (drop (suc n) rest)))
+      ∙ (sym (ap front_of (parts_first 10 rest n f)) ∙ ap (λ s. front_of (parts 10 s)) left)
 
-  pub front_cut : (length rest ≡ 0 → ⊥) → FirstAt 10 rest None → Some (Err Letter) ≡ front_of (ahead p)
+  pub front_cut : false ≡ (length rest == 0) → FirstAt 10 rest None → Some (Err Letter) ≡ front_of (ahead p)
   front_cut some f =
-      sym (ap (λ t. cond t None (Some (Err Letter))) (ne_eqb (length rest) 0 some)) ∙ (sym (ap front_of (parts_none 10 rest f)) ∙ ap (λ s. front_of (parts 10 s)) left)
+      sym (ap (λ t. cond t None (Some (Err Letter))) (sym some)) ∙ (sym (ap front_of (parts_none 10 rest f)) ∙ ap (λ s. front_of (parts 10 s)) left)
 
-  pub line_fits : (n : ℕ) → p.at ≤ length p.bytes → FirstAt 10 rest (Some n) → p.at + length (take (n - 0) rest) + 1 ≤ length p.bytes
+  pub line_fits : (n : ℕ) → p.at ≤ length p.bytes → FirstAt 10 rest (Some n) → p.at + length (take n rest) + 1 ≤ length p.bytes
   line_fits n inside f =
-      let e : n - 0 ≡ n = omega arith in
       let a : length (take n rest) ≡ n = length-take-le n rest (omega (arith, f.0)) in
-      let b : length rest ≡ length p.bytes - p.at = ap length left ∙ length-drop p.at p.bytes in
-      let d : length (take (n - 0) rest) ≡ length (take n rest) = ap (λ k. length (take k rest)) e in omega (arith, f.0)
+      let b : length rest ≡ length p.bytes - p.at = ap length left ∙ length-drop p.at p.bytes in omega (arith, f.0)

@@ -1,5 +1,7 @@
 -- Reading one line, judged by the rule for lines of the file: what is answered, and where the cursor stands then.
 use Rattle.std.specs.Prelude.{◌≡◌, ℕ, List, length, Some, None, Ok, Err, Option, Result}
+use Rattle.std.specs.Borrow.{Bor}
+use Rattle.std.specs.Fn.{Once, FnOnceReturnsAt}
 use Rattle.lines.specs.declared.fault.LineFault.{LineFault}
 use Rattle.lines.specs.declared.fault.FileFault.{FileFault}
 use Rattle.lines.specs.declared.unit.UnitLine.{UnitLine}
@@ -13,6 +15,11 @@ abbrev pub on_line : {T : Type 0} → ℕ → Result T LineFault → Result T Fi
 on_line l (Ok x) = Ok x
 on_line l (Err e) = Err (record { line = l; fault = e })
 
+-- past a line that was read, or at the end of the file
+abbrev pub after_line : {T : Type 0} → Position → List ℕ → Result T LineFault → Position
+after_line p text (Ok x) = passed p (length text)
+after_line p text (Err e) = stopped p
+
 module _ {T : Type 0} (judge : List ℕ → Result T LineFault) where
   abbrev pub answer_to : ℕ → Option (Result (List ℕ) LineFault) → Option (Result T FileFault)
   answer_to l None = None
@@ -23,10 +30,6 @@ module _ {T : Type 0} (judge : List ℕ → Result T LineFault) where
   abbrev pub answer_at : Position → Option (Result T FileFault)
   answer_at p = answer_to p.line (front_of (ahead p))
 
-  abbrev pub after_line : Position → List ℕ → Result T LineFault → Position
-  after_line p text (Ok x) = passed p (length text)
-  after_line p text (Err e) = stopped p
-
   abbrev pub after_front : Position → Option (Result (List ℕ) LineFault) → Position
   after_front p None = p
   after_front p (Some (Ok text)) = after_line p text (judge text)
@@ -35,6 +38,17 @@ module _ {T : Type 0} (judge : List ℕ → Result T LineFault) where
   -- where the cursor stands then: past the line, or at the end of the file where the line cannot be read
   abbrev pub after_at : Position → Position
   after_at p = after_front p (front_of (ahead p))
+
+-- what a call gave out and where the cursor stands then, by what the function f read of the line at the cursor
+module _ {F T : Type 0} (g : Once F (Bor (List ℕ) × Unit {0}) (Result T LineFault)) (f : F) (before : Position) where
+  abbrev pub GivenFor : Option (Result (List ℕ) LineFault) → Option (Result T FileFault) → Position → Type 0
+  GivenFor None answer after = (answer ≡ None) × (after ≡ before)
+  GivenFor (Some (Ok text)) answer after =
+      (r : Result T LineFault) × FnOnceReturnsAt g f text r × (answer ≡ Some (on_line before.line r)) × (after ≡ after_line before text r)
+  GivenFor (Some (Err e)) answer after = (answer ≡ Some (Err (record { line = before.line; fault = e }))) × (after ≡ stopped before)
+
+  abbrev pub GivenBy : Option (Result T FileFault) → Position → Type 0
+  GivenBy answer after = GivenFor (front_of (ahead before)) answer after
 
 -- what a call gave out, the names read
 abbrev pub unit_given : Option (Result UnitLine FileFault) → Option (Result UnitSaid FileFault)

@@ -1,22 +1,16 @@
 -- Equal texts, and units by name.
-use Rattle.std.proofs.Common.{◌≡◌, ℕ, zero, suc, Bool, true, false, cond, ◌&&◌, List, [], ◌∷◌, Some, None, Option, sym, refl, ap, ◌∙◌, ⊎_elim, arith}
-use Rattle.std.proofs.lemmas.Bool.{eq-eqb, ne_eqb, cases_eq}
+use Rattle.std.proofs.Common.{◌≡◌, ℕ, zero, suc, Bool, true, false, cond, List, [], ◌∷◌, Some, None, Option, sym, refl, ap, ◌∙◌, arith}
+use Rattle.std.proofs.lemmas.Cmp.{nat_list_eq_equiv}
+use Rattle.std.specs.Cmp.Lexicographic.{same_text as told}
 use Rattle.std.specs.Option.{option_map}
 use Rattle.file_rig.specs.Adding.{FoundAt}
 use Rattle.lines.specs.Known.{same_text, unit_named}
 
 pub same_refl : (s : List ℕ) → same_text s s ≡ true
-same_refl [] = refl
-same_refl (a ∷ s) = ap (λ t. t && same_text s s) (eq-eqb a a refl) ∙ same_refl s
+same_refl s = nat_list_eq_equiv.refl s
 
 pub same_true : (s t : List ℕ) → same_text s t ≡ true → s ≡ t
-same_true [] [] h = refl
-same_true [] (b ∷ t) h = let z : ◌≡◌ {A = Bool} true false = sym h in absurd (let y : ◌≡◌ {A = ℕ} 0 1 = cc in omega arith)
-same_true (a ∷ s) [] h = let z : ◌≡◌ {A = Bool} true false = sym h in absurd (let y : ◌≡◌ {A = ℕ} 0 1 = cc in omega arith)
-same_true (a ∷ s) (b ∷ t) h =
-    ⊎_elim (λ (e : a ≡ b). let k : same_text s t ≡ true = sym (ap (λ x. x && same_text s t) (eq-eqb a b e)) ∙ h in let r = same_true s t k in cc)
-    (λ (ne : a ≡ b → ⊥). let z : ◌≡◌ {A = Bool} false true = sym (ap (λ x. x && same_text s t) (ne_eqb a b ne)) ∙ h in absurd (let y : ◌≡◌ {A = ℕ} 0 1 = cc in omega arith))
-    (cases_eq a b)
+same_true s t h = told s t (sym h)
 
 pub same_false : (s t : List ℕ) → (s ≡ t → ⊥) → same_text s t ≡ false
 same_false s t ne = by_test (same_text s t) (same_true s t)

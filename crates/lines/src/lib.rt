@@ -6,4 +6,3 @@ pub mod header;
 mod text;
 pub mod unit;
 pub mod wire;
-pub mod words;

@@ -1,12 +1,14 @@
 // The fields of a line, and names among those that are known.
-ghost use Rattle.std.specs.Prelude.{◌≡◌, ℕ, length, ◌≤ℤ◌, IfSome};
+ghost use Rattle.std.specs.Prelude.{◌≡◌, true, false, length, ◌≤ℤ◌, IfSome, MatchOption};
 ghost use Rattle.file_rig.specs.Table.{names_of};
+ghost use Rattle.names.specs.Naming.{is_name};
 ghost use Rattle.numerals.specs.Numbers.{number_of};
-ghost use Rattle.lines.specs.Known.{same_text, unit_named};
+ghost use Rattle.lines.specs.Known.{unit_named};
 ghost use Rattle.lines.specs.Fields.{field, fields, within};
 
 use fields::parts::{count, part};
 use file_rig::table::FileRig;
+use names::name::reading::is_name;
 use numerals::number::number;
 
 /// One field of a line by its number, from 1; empty where there is none.
@@ -23,28 +25,29 @@ pub(crate) fn field_count(line: &[u8]) -> usize
     count(line, b',')
 }
 
+/// One field of a line, where it is a name.
+pub(crate) fn name_in(line: &[u8], number: usize) -> Option<&[u8]>
+    ensures { MatchOption result (is_name (field number line.now) ≡ false) (λ t. (is_name (field number line.now) ≡ true) × (t.now ≡ field number line.now)) }
+{
+    let text = field(line, number);
+    is_name(text).then_some(text)
+}
+
 /// The number that a field writes, where it is from low to high.
 pub(crate) fn number_within(text: &[u8], low: i32, high: i32) -> Option<i32>
     ensures value { result ≡ within low high (number_of text.now) }
     ensures range { IfSome result (λ n. (low ≤ℤ n) × (n ≤ℤ high)) }
 {
-    let Some(n) = number(text) else {
-        return None;
-    };
+    // No `filter` and no `contains`: with either the value was not proved.
+    let n = number(text)?;
     if n < low || n > high {
         return None;
     }
     Some(n)
 }
 
-/// Whether two texts are the same.
-pub(crate) fn same(a: &[u8], b: &[u8]) -> bool
-    ensures { result ≡ same_text a.now b.now }
-{
-    a == b
-}
-
 /// The unit with this name.
+// Hands on to `find`, and says what it answers in the words of the grammar.
 pub(crate) fn unit_named(known: &FileRig, name: &[u8]) -> Option<usize>
     ensures { result ≡ unit_named (names_of known.now) name.now }
 {

@@ -1,4 +1,5 @@
 /// A line of a units file. Its name is a part of the file's bytes.
+// An enum and no struct of a name and a `Design`: that lines are an enum whose names borrow the file is a rule of the project.
 #[derive(Clone, Copy)]
 pub enum UnitLine<'a> {
     Integrator {

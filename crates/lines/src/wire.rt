@@ -1,13 +1,15 @@
-/// A line of a wires file. Its names are parts of the file's bytes.
+/// One end of a wire: the unit's name, which is a part of the file's bytes, and the port.
+#[derive(Clone, Copy)]
+pub struct End<'a> {
+    pub name: &'a [u8],
+    pub port: usize,
+}
+
+/// A line of a wires file.
 #[derive(Clone, Copy)]
 pub enum WireLine<'a> {
     /// From an output of one unit to an input of another.
-    Wire {
-        from: &'a [u8],
-        output: usize,
-        to: &'a [u8],
-        input: usize,
-    },
+    Wire { from: End<'a>, to: End<'a> },
 }
 
 pub mod ends;

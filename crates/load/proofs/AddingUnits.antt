@@ -1,11 +1,11 @@
 -- Units added line by line.
-use Rattle.std.proofs.Common.{◌≡◌, ℕ, ◌+◌, List, [], ◌∷◌, ◌++◌, length, Some, Ok, Err, vec_items, vec_len, Option, Result, sym, refl, ap, ◌∙◌, arith}
-use Rattle.std.proofs.lemmas.List.{length-map, map_push}
+use Rattle.std.proofs.Common.{◌≡◌, ℕ, ◌+◌, List, [], ◌∷◌, ◌++◌, length, Some, Ok, Err, Option, Result, sym, refl, ap, ◌∙◌, arith}
+use Rattle.std.proofs.lemmas.List.{map_push}
 use Rattle.kinds.specs.declared.design.Design.{Design}
 use Rattle.file_rig.specs.declared.table.FileRig.{FileRig}
 use Rattle.file_rig.specs.declared.table.fault.AddFault.{AddFault}
 use Rattle.file_rig.specs.declared.table.fault.AddFault.TheVariants.{TableFull, BadName, NameUsed, BadDesign, NoMemory}
-use Rattle.file_rig.specs.Table.{name_of, names_of}
+use Rattle.file_rig.specs.Table.{names_of}
 use Rattle.file_rig.specs.Adding.{Added, new_unit}
 use Rattle.lines.specs.declared.fault.FileFault.{FileFault}
 use Rattle.lines.specs.declared.unit.UnitLine.{UnitLine}
@@ -23,9 +23,7 @@ use Rattle.load.proofs.Reading.{LineAhead, line_ahead, some_ahead}
 -- a proper unit is refused only for want of memory
 pub only_memory : (before after : FileRig) (u : UnitSaid) (name : List ℕ) (d : Design) → name ≡ u.name → d ≡ u.design → ProperUnit (names_of before) u
     → (e : AddFault) → Added before name d (Err e) after → (e ≡ NoMemory → ⊥) → ⊥
-only_memory before after u name d en ed p TableFull a not =
-    let l : length (names_of before) ≡ length (vec_items before.units) = length-map (vec_items before.units) name_of in
-    let v : vec_len before.units ≡ length (vec_items before.units) = before.units.ok.0 in omega (arith, a.0, p.room)
+only_memory before after u name d en ed p TableFull a not = omega (arith, a.0, p.room)
 only_memory before after u name d en ed p BadName a not = let b = a.1 in let t = p.name in let z : ◌≡◌ {A = ℕ} 0 1 = cc in omega arith
 only_memory before after u name d en ed p NameUsed a not =
     let f = found_is name (names_of before) (Some a.1.0) a.1.1 in let t = p.new in let z : ◌≡◌ {A = ℕ} 0 1 = cc in omega arith

@@ -1,10 +1,11 @@
 -- Wires added line by line.
-use Rattle.std.proofs.Common.{◌≡◌, ℕ, suc, ◌+◌, ◌<◌, ◌≤◌, Bool, true, false, cond, ◌&&◌, eqb, List, [], ◌∷◌, ◌++◌, length, Some, None, Ok, Err, vec_items, vec_len, Option, Result, sym, refl, ap, ◌∙◌, subst, ⊎_elim, arith}
+use Rattle.std.proofs.Common.{◌≡◌, ℕ, suc, ◌+◌, ◌<◌, ◌≤◌, Bool, true, false, cond, ◌&&◌, eqb, List, [], ◌∷◌, ◌++◌, length, Some, None, Ok, Err, vec_items, Option, Result, sym, refl, ap, ◌∙◌, subst, ⊎_elim, arith}
 use Rattle.std.proofs.lemmas.Bool.{eq-eqb, ne_eqb, cases_eq}
 use Rattle.std.specs.Option.{option_map}
 use Rattle.std.proofs.lemmas.List.{length-map}
 use Rattle.file_rig.specs.declared.table.FileRig.{FileRig}
-use Rattle.file_rig.specs.Table.{name_of, names_of}
+use Rattle.file_rig.specs.Table.{labels_of, names_of}
+use Rattle.names.specs.Names.{text_of}
 use Rattle.wiring.specs.declared.port.Port.{Port}
 use Rattle.wiring.specs.declared.table.Wiring.{Wiring}
 use Rattle.wiring.specs.declared.fault.WireFault.{WireFault}
@@ -39,17 +40,15 @@ named_below (n ∷ ns) name u e = below_in ns name (same_text n name) u (named_b
 
 -- an end that a line names, found by its name, is within 16 units of 8 ports
 module _ (known : List (List ℕ)) (few : length known ≤ 16) where
-  end_within : (said : NamedPort) (p : Port) → p.port ≤ 7 → IsEnd known said p → (name : List ℕ) (port : ℕ) → name ≡ said.name → port ≡ said.port
-      → (q : Port) → IsEnd known (record { name = name; port = port }) q → (q.unit ≤ 15) × (q.port ≤ 7)
-  end_within said p h i name port en ep q e =
-      let b = named_below known name q.unit e.unit in let x = e.port in let y = i.port in (omega arith, omega arith)
+  end_within : (said other : NamedPort) (p q : Port) → p.port ≤ 7 → IsEnd known said p → other ≡ said → IsEnd known other q → (q.unit ≤ 15) × (q.port ≤ 7)
+  end_within said other p q h i same e =
+      let b = named_below known other.name q.unit e.unit in let x = e.port in let y = i.port in let z = ap (λ s. s.port) same in (omega arith, omega arith)
 
-  pub ends_within : (line : WireLine) (w : Wire) → Names known line w → ProperWire known w
-      → (f : List ℕ) (o : ℕ) → f ≡ (source_said line).name → o ≡ (source_said line).port → (from : Port) → IsEnd known (record { name = f; port = o }) from
-      → (t : List ℕ) (i : ℕ) → t ≡ (target_said line).name → i ≡ (target_said line).port → (to : Port) → IsEnd known (record { name = t; port = i }) to → InRange from to
-  ends_within line w n p f o ef eo from a t i et ei to b =
-      let x = end_within (source_said line) w.from p.from.within n.from f o ef eo from a in
-      let y = end_within (target_said line) w.to p.to.within n.to t i et ei to b in
+  pub ends_within : (line : WireLine) (w : Wire) → Names known line w → ProperWire known w → (f : NamedPort) → f ≡ source_said line → (from : Port) → IsEnd known f from
+      → (t : NamedPort) → t ≡ target_said line → (to : Port) → IsEnd known t to → InRange from to
+  ends_within line w n p f ef from a t et to b =
+      let x = end_within (source_said line) f w.from from p.from.within n.from ef a in
+      let y = end_within (target_said line) t w.to to p.to.within n.to et b in
       record { from_unit = x.0; from_port = x.1; to_unit = y.0; to_port = y.1 }
 
 -- a refusal that blames the range came for its cause
@@ -126,5 +125,5 @@ held_wire before after ws w h none m u i =
 -- a file rig has at most 16 names
 pub few_names : (rig : FileRig) → length (names_of rig) ≤ 16
 few_names rig =
-    let l : length (names_of rig) ≡ length (vec_items rig.units) = length-map (vec_items rig.units) name_of in
-    let v : vec_len rig.units ≡ length (vec_items rig.units) = rig.units.ok.0 in let f = rig.few in omega arith
+    let l = length-map (labels_of rig) text_of in let m = length-map (vec_items rig.table.units) (λ x. x.label) in
+    let v = rig.table.units.ok.0 in let f = rig.table.few in omega arith

@@ -1,6 +1,7 @@
 -- What a cursor gives out, as the lines of the whole file.
 use Rattle.std.proofs.Common.{◌≡◌, ℕ, suc, ◌+◌, ◌-◌, ◌<◌, ◌≤◌, Bool, true, false, cond, eqb, List, [], ◌∷◌, ◌++◌, length, drop, Some, None, Ok, Err, Option, Result, sym, refl, ap, ◌∙◌, arith}
 use Rattle.std.proofs.lemmas.List.{drop-drop}
+use Rattle.std.specs.Result.{IsErrAnd}
 use Rattle.std.specs.Option.{ok_or}
 use Rattle.fields.specs.Parts.{parts}
 use Rattle.fields.proofs.Parting.{parts_later, some_part}
@@ -17,6 +18,11 @@ ahead_passed : (p : Position) (text : List ℕ) (later : List (List ℕ)) → 1 
 ahead_passed p text later some e =
     let n : p.at + length text + 1 ≡ p.at + suc (length text) = omega arith in
     ap (λ k. parts 10 (drop k p.bytes)) n ∙ (ap (parts 10) (sym (drop-drop (suc (length text)) p.at p.bytes)) ∙ parts_later 10 (drop p.at p.bytes) text later some e)
+
+-- an error that `?` made of another
+pub err_given : {T E : Type 0} (r : Result T E) (x : E) → IsErrAnd r (λ e. e ≡ x) → r ≡ Err x
+err_given (Ok y) x e = absurd e
+err_given (Err y) x e = ap (λ z. Err z) e
 
 -- the line that a cursor gave out
 pub record LineAhead {T : Type 0} (judge : List ℕ → Result T LineFault) (p : Position) (x : T) : Type 0 where

@@ -1,6 +1,5 @@
 -- Loading in parts: one line added, and a table filled up to the first line that cannot be read.
 use Rattle.std.specs.Prelude.{◌≡◌, ℕ, ◌≤◌, List, [], ◌∷◌, ◌++◌, length, Some, None, Ok, Err, Result}
-use Rattle.std.specs.declared.alloc.AllocError.{AllocError}
 use Rattle.file_rig.specs.declared.table.FileRig.{FileRig}
 use Rattle.file_rig.specs.Table.{units_of, names_of}
 use Rattle.file_rig.specs.Adding.{new_unit}
@@ -25,9 +24,9 @@ pub record OneUnitMore (before : FileRig) (u : UnitSaid) (after : FileRig) : Typ
   pub names : names_of after ≡ names_of before ++ u.name ∷ []
 
 -- a line was added, or there was no memory for it
-abbrev pub LineAdded : FileRig → UnitSaid → Result (Unit {0}) AllocError → FileRig → Type 0
+abbrev pub LineAdded : FileRig → UnitSaid → Result (Unit {0}) LoadFault → FileRig → Type 0
 LineAdded before u (Ok r) after = OneUnitMore before u after
-LineAdded before u (Err e) after = Unit {0}
+LineAdded before u (Err e) after = e ≡ NoMemory
 
 -- a rig filled by a whole file, or up to the first line that cannot be read
 abbrev pub UnitsFilled : List ℕ → Result ℕ LoadFault → FileRig → Type 0

@@ -4,4 +4,3 @@
 pub mod fault;
 pub mod units;
 pub mod wires;
-pub mod words;

@@ -12,17 +12,17 @@ use file_rig::table::FileRig;
 use file_rig::table::fault::AddFault;
 use files::cursor::Cursor;
 use lines::unit::UnitLine;
-use std::alloc::AllocError;
 
 /// Adds the unit of a line that was read against the rig's names: only memory can be wanting.
-fn add_line(rig: &mut FileRig, line: &UnitLine<'_>) -> Result<(), AllocError>
+fn add_line(rig: &mut FileRig, line: &UnitLine<'_>) -> Result<(), LoadFault>
     requires { ProperUnit (names_of rig.old) (unit_said line.now) }
     ensures { LineAdded rig.old (unit_said line.now) result rig.new }
 {
     match rig.add(line.name(), line.design()) {
         Ok(_) => Ok(()),
+        // A `match` in the arm: in `Err(_)` the proof is not told that it is another fault.
         Err(fault) => match fault {
-            AddFault::NoMemory => Err(AllocError),
+            AddFault::NoMemory => Err(LoadFault::NoMemory),
             _ => unreachable(),
         },
     }
@@ -35,18 +35,10 @@ fn fill_units(bytes: &[u8], rig: &mut FileRig) -> Result<u32, LoadFault>
 {
     rig.clear();
     let mut cursor = Cursor::new(bytes);
-    let most = match cursor.units_heading() {
-        Ok(most) => most,
-        Err(fault) => return Err(LoadFault::Refused(fault)),
-    };
+    let most = cursor.units_heading()?;
     while let Some(answer) = cursor.next_unit(rig) {
-        let line = match answer {
-            Ok(line) => line,
-            Err(fault) => return Err(LoadFault::Refused(fault)),
-        };
-        if let Err(_) = add_line(rig, &line) {
-            return Err(LoadFault::NoMemory);
-        }
+        let line = answer?;
+        add_line(rig, &line)?;
     }
     Ok(most)
 }
@@ -56,6 +48,7 @@ pub fn load_units(bytes: &[u8], rig: &mut FileRig) -> Result<u32, LoadFault>
     ensures loaded { UnitsLoaded bytes.now result rig.new }
     ensures grammar { UnitsGrammar bytes.now }
 {
+    // No `map_err`: of a closure that changes what it borrows the proof is not told what it leaves there.
     let answer = fill_units(bytes, rig);
     if answer.is_err() {
         rig.clear();

@@ -2,7 +2,7 @@
 ghost use Rattle.std.specs.Prelude.{◌≡◌, ℕ, Some};
 ghost use Rattle.file_rig.specs.Table.{names_of};
 ghost use Rattle.lines.specs.Known.{unit_named};
-ghost use Rattle.lines.specs.WireLines.{Wire, Names, IsEnd};
+ghost use Rattle.lines.specs.WireLines.{Wire, Names, IsEnd, end_said};
 ghost use Rattle.grammar.specs.Laws.{WiresGrammar};
 ghost use Rattle.load.specs.Loaded.{WiresLoaded};
 ghost use Rattle.load.specs.Filling.{Resolves, WireAdded, WiresFilled};
@@ -10,18 +10,21 @@ ghost use Rattle.load.specs.Filling.{Resolves, WireAdded, WiresFilled};
 use file_rig::table::FileRig;
 use files::cursor::Cursor;
 use lines::fault::{FileFault, LineFault};
-use lines::wire::WireLine;
+use lines::wire::{End, WireLine};
 use wiring::fault::WireFault;
 use wiring::port::Port;
 use wiring::table::Wiring;
 
-/// A port by the name of its unit, which is known.
-fn resolve(rig: &FileRig, name: &[u8], port: usize) -> Port
-    requires { (u : ℕ) × (unit_named (names_of rig.now) name.now ≡ Some u) }
-    ensures { IsEnd (names_of rig.now) (record { name = name.now; port = port }) result }
+/// The port at an end whose unit is known.
+fn resolve(rig: &FileRig, end: End<'_>) -> Port
+    requires { (u : ℕ) × (unit_named (names_of rig.now) end.name.now ≡ Some u) }
+    ensures { IsEnd (names_of rig.now) (end_said end.entry) result }
 {
-    match rig.find(name) {
-        Some(unit) => Port { unit, port },
+    match rig.find(end.name) {
+        Some(unit) => Port {
+            unit,
+            port: end.port,
+        },
         None => unreachable(),
     }
 }
@@ -31,20 +34,17 @@ fn add_wire(wiring: &mut Wiring, rig: &FileRig, line: &WireLine<'_>) -> Result<(
     requires { Resolves (names_of rig.now) line.now }
     ensures { (w : Wire) → Names (names_of rig.now) line.now w → WireAdded wiring.old w result wiring.new }
 {
-    let (name, output) = line.source();
-    let from = resolve(rig, name, output);
-    let (name, input) = line.target();
-    let to = resolve(rig, name, input);
+    let from = resolve(rig, line.source());
+    let to = resolve(rig, line.target());
     match wiring.add(from, to) {
         Ok(()) => Ok(()),
-        Err(fault) => match fault {
-            WireFault::WiredTwice(_) => Err(LineFault::WiredTwice),
-            WireFault::OutOfRange(_) => unreachable(),
-        },
+        Err(WireFault::WiredTwice(_)) => Err(LineFault::WiredTwice),
+        Err(WireFault::OutOfRange(_)) => unreachable(),
     }
 }
 
 /// Fills a wiring line by line, up to the first line that cannot be read.
+// Not one function with `fill_units`: the two share their loop alone, and what they add, refuse and number they would take as closures.
 fn fill_wires(bytes: &[u8], rig: &FileRig, wiring: &mut Wiring) -> Result<(), FileFault>
     ensures filled { WiresFilled (names_of rig.now) bytes.now result wiring.new }
     ensures grammar { WiresGrammar (names_of rig.now) bytes.now }
@@ -55,6 +55,7 @@ fn fill_wires(bytes: &[u8], rig: &FileRig, wiring: &mut Wiring) -> Result<(), Fi
     let mut number = cursor.line();
     while let Some(answer) = cursor.next_wire(rig) {
         let line = answer?;
+        // No `map_err` and `?`: over the closure the loop's goals stayed open.
         if let Err(fault) = add_wire(wiring, rig, &line) {
             return Err(FileFault {
                 line: number,
@@ -71,6 +72,7 @@ pub fn load_wires(bytes: &[u8], rig: &FileRig, wiring: &mut Wiring) -> Result<()
     ensures loaded { WiresLoaded (names_of rig.now) bytes.now result wiring.new }
     ensures grammar { WiresGrammar (names_of rig.now) bytes.now }
 {
+    // No `map_err`: of a closure that changes what it borrows the proof is not told what it leaves there.
     let answer = fill_wires(bytes, rig, wiring);
     if answer.is_err() {
         wiring.clear();

@@ -2,26 +2,34 @@
 ghost use Rattle.std.specs.Prelude.{◌≡◌};
 ghost use Rattle.lines.specs.Headers.{cap_of, wires_head};
 ghost use Rattle.files.specs.Positions.{position_of};
-ghost use Rattle.files.specs.Heading.{heading_at, after_heading};
+ghost use Rattle.files.specs.Heading.{HeadedBy, heading_at, after_heading};
 
 use super::Cursor;
 use lines::fault::{FileFault, LineFault};
 use lines::header::{is_wires, read_cap};
 
-impl Cursor<'_> {
+impl<'a> Cursor<'a> {
+    /// Reads the first line by what judges its text; whatever is wrong with it is one fault.
+    fn heading<T, F: FnOnce(&'a [u8]) -> Option<T>>(&mut self, judge: F) -> Result<T, FileFault>
+        requires { F.IsAlwaysCallable judge }
+        ensures { HeadedBy F.FnOnce judge (position_of self.old) result (position_of self.new) }
+    {
+        let Some(Ok(line)) = self.front() else {
+            return Err(self.stop(LineFault::FirstLine));
+        };
+        let Some(told) = judge(line) else {
+            return Err(self.stop(LineFault::FirstLine));
+        };
+        self.pass(line.len());
+        Ok(told)
+    }
+
     /// Reads the first line of a units file, and answers its cap.
     pub fn units_heading(&mut self) -> Result<u32, FileFault>
         ensures answer { result ≡ heading_at cap_of (position_of self.old) }
         ensures cursor { position_of self.new ≡ after_heading cap_of (position_of self.old) }
     {
-        let Some(Ok(line)) = self.front() else {
-            return Err(self.stop(LineFault::FirstLine));
-        };
-        let Some(most) = read_cap(line) else {
-            return Err(self.stop(LineFault::FirstLine));
-        };
-        self.pass(line.len());
-        Ok(most)
+        self.heading(|line| read_cap(line))
     }
 
     /// Reads the first line of a wires file.
@@ -29,13 +37,7 @@ impl Cursor<'_> {
         ensures answer { result ≡ heading_at wires_head (position_of self.old) }
         ensures cursor { position_of self.new ≡ after_heading wires_head (position_of self.old) }
     {
-        let Some(Ok(line)) = self.front() else {
-            return Err(self.stop(LineFault::FirstLine));
-        };
-        if !is_wires(line) {
-            return Err(self.stop(LineFault::FirstLine));
-        }
-        self.pass(line.len());
-        Ok(())
+        // No `then_some`: over it what the closure tells was not proved.
+        self.heading(|line| if is_wires(line) { Some(()) } else { None })
     }
 }

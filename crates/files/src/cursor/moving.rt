@@ -25,13 +25,13 @@ impl<'a> Cursor<'a> {
     {
         let bytes = self.bytes;
         let rest = &bytes[self.at..];
-        if rest.len() == 0 {
+        if rest.is_empty() {
             return None;
         }
-        match first_at(rest, b'\n') {
-            Some(n) => Some(Ok(&rest[0..n])),
-            None => Some(Err(LineFault::Letter)),
-        }
+        let Some(n) = first_at(rest, b'\n') else {
+            return Some(Err(LineFault::Letter));
+        };
+        Some(Ok(&rest[..n]))
     }
 
     /// Moves past a line of this length and its line feed.
@@ -39,8 +39,8 @@ impl<'a> Cursor<'a> {
         requires { self.old.at + len + 1 ≤ length self.old.bytes.now }
         ensures { position_of self.new ≡ passed (position_of self.old) len }
     {
-        self.at = self.at + len + 1;
-        self.line = self.line + 1;
+        self.at += len + 1;
+        self.line += 1;
     }
 
     /// Moves to the end of the file, and tells the fault of the line at the cursor.

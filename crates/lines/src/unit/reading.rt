@@ -1,14 +1,14 @@
 // Reading a line of a units file, its fields from the left.
+// Each field is taken by `let .. else` and not by `?`: a rule of the project.
 ghost use Rattle.std.specs.Prelude.{◌≡◌, ℕ};
 ghost use Rattle.file_rig.specs.Table.{names_of};
 ghost use Rattle.lines.specs.UnitLines.{kind_of_letter, field_count, integrator_at, gain_at, constant_at, with_name, unit_line, unit_read};
 
 use super::super::fault::LineFault;
-use super::super::text::{field, field_count, number_within, unit_named};
+use super::super::text::{field, field_count, name_in, number_within, unit_named};
 use super::UnitLine;
 use file_rig::table::FileRig;
 use kinds::kind::Kind;
-use names::name::reading::is_name;
 use numerals::number::number;
 
 /// The kind of unit that a letter stands for.
@@ -53,6 +53,7 @@ fn read_integrator<'a>(line: &'a [u8], name: &'a [u8]) -> Result<UnitLine<'a>, L
     let Some(m) = number_within(field(line, 6), 1, 1_000_000) else {
         return Err(LineFault::NotNumber { field: 6 });
     };
+    // No `contains`: with it two goals stayed open.
     if x < lo || x > hi {
         return Err(LineFault::Disagree);
     }
@@ -61,7 +62,7 @@ fn read_integrator<'a>(line: &'a [u8], name: &'a [u8]) -> Result<UnitLine<'a>, L
         x,
         lo,
         hi,
-        m: m as u32,
+        m: m.unsigned_abs(),
     })
 }
 
@@ -104,8 +105,7 @@ pub fn read_unit<'a>(line: &'a [u8], known: &FileRig) -> Result<UnitLine<'a>, Li
     if !known.has_room() {
         return Err(LineFault::TooManyUnits);
     }
-    let name = field(line, 2);
-    let true = is_name(name) else {
+    let Some(name) = name_in(line, 2) else {
         return Err(LineFault::NotName { field: 2 });
     };
     let None = unit_named(known, name) else {

@@ -11,8 +11,7 @@ impl<'a> UnitLine<'a> {
         ensures { result.now ≡ (unit_said self.now).name }
     {
         match *self {
-            UnitLine::Integrator { name, .. } => name,
-            UnitLine::Gain { name, .. } => name,
+            UnitLine::Integrator { name, .. } | UnitLine::Gain { name, .. } => name,
             UnitLine::Constant { name, .. } => name,
         }
     }

@@ -1,13 +1,34 @@
 // Reading a line of a wires file, its fields from the left.
-ghost use Rattle.std.specs.Prelude.{◌≡◌};
+// Each field is taken by `let .. else` and not by `?`: a rule of the project.
+ghost use Rattle.std.specs.Prelude.{◌<◌};
 ghost use Rattle.file_rig.specs.Table.{names_of};
-ghost use Rattle.lines.specs.WireLines.{wire_at, wire_line, WireRead};
+ghost use Rattle.lines.specs.WireLines.{wire_at, wire_line, EndRead, WireRead};
 
 use super::super::fault::LineFault;
-use super::super::text::{field, field_count, number_within, unit_named};
-use super::WireLine;
+use super::super::text::{field, field_count, name_in, number_within, unit_named};
+use super::{End, WireLine};
 use file_rig::table::FileRig;
-use names::name::reading::is_name;
+
+/// A unit's name in one field, and a port in the next.
+fn read_end<'a>(line: &'a [u8], known: &FileRig, number: usize) -> Result<End<'a>, LineFault>
+    requires { number < 5 }
+    ensures { EndRead (names_of known.now) number line.now result }
+{
+    let Some(name) = name_in(line, number) else {
+        return Err(LineFault::NotName { field: number });
+    };
+    let Some(_) = unit_named(known, name) else {
+        return Err(LineFault::NoUnit { field: number });
+    };
+    let Some(port) = number_within(field(line, number + 1), 0, 7) else {
+        return Err(LineFault::NotNumber { field: number + 1 });
+    };
+    Ok(End {
+        name,
+        // Proved to lose nothing: the port is 0 to 7.
+        port: port as usize,
+    })
+}
 
 /// `W,from,output,to,input`, after its letter.
 fn read_ends<'a>(line: &'a [u8], known: &FileRig) -> Result<WireLine<'a>, LineFault>
@@ -16,32 +37,9 @@ fn read_ends<'a>(line: &'a [u8], known: &FileRig) -> Result<WireLine<'a>, LineFa
     if field_count(line) != 5 {
         return Err(LineFault::FieldCount);
     }
-    let from = field(line, 2);
-    let true = is_name(from) else {
-        return Err(LineFault::NotName { field: 2 });
-    };
-    let Some(_) = unit_named(known, from) else {
-        return Err(LineFault::NoUnit { field: 2 });
-    };
-    let Some(output) = number_within(field(line, 3), 0, 7) else {
-        return Err(LineFault::NotNumber { field: 3 });
-    };
-    let to = field(line, 4);
-    let true = is_name(to) else {
-        return Err(LineFault::NotName { field: 4 });
-    };
-    let Some(_) = unit_named(known, to) else {
-        return Err(LineFault::NoUnit { field: 4 });
-    };
-    let Some(input) = number_within(field(line, 5), 0, 7) else {
-        return Err(LineFault::NotNumber { field: 5 });
-    };
-    Ok(WireLine::Wire {
-        from,
-        output: output as usize,
-        to,
-        input: input as usize,
-    })
+    let from = read_end(line, known, 2)?;
+    let to = read_end(line, known, 4)?;
+    Ok(WireLine::Wire { from, to })
 }
 
 /// A line of a wires file between units of this rig.

@@ -1,4 +1,4 @@
-use Rattle.std.proofs.Common.{◌≡◌, ◌+◌, [], ◌∷◌, ◌++◌, length, Some, Err, sym, ap, ◌∙◌, rules}
+use Rattle.std.proofs.Common.{◌≡◌, ◌+◌, [], ◌∷◌, ◌++◌, length, Some, Err, sym, ap, ◌∙◌, subst, rules}
 use Rattle.file_rig.specs.Table.{names_of}
 use Rattle.lines.specs.UnitLines.{unit_said, unit_line}
 use Rattle.lines.specs.Headers.{cap_of}
@@ -8,42 +8,45 @@ use Rattle.files.specs.Reading.{answer_at, unit_given}
 use Rattle.grammar.specs.Files.{with_cap, lines_from, judge_unit}
 use Rattle.grammar.proofs.Lines.{unit_proper}
 use Rattle.grammar.proofs.Whole.{units_law}
-use Rattle.load.proofs.Reading.{fewer_left, lines_refused, head_refused, head_read}
+use Rattle.load.specs.Filling.{UnitsFilled}
+use Rattle.load.proofs.Reading.{err_given, fewer_left, lines_refused, head_refused, head_read}
 use Rattle.load.proofs.AddingUnits.{unit_ahead, held_more, units_on}
 use Rattle.load.proofs.units.fill_units.Goals as goal
 
-pub returns-in-Err : goal.returns-in-Err
-returns-in-Err c = record {
-  filled = head_refused cap_of (λ n lines. with_cap n (lines_from judge_unit 2 [] lines)) c.args.bytes.now c.in-Err.fault
-      (c.in-Err.ensures.answer ∙ ap (heading_at cap_of) c.new-cursor.ensures);
+pub returns-in_err-most : goal.returns-in_err-most
+returns-in_err-most c = record {
+  filled = subst (λ r. UnitsFilled c.args.bytes.now r c.clear.new.self) (sym (err_given _ _ c.from_residual.ensures.1))
+      (head_refused cap_of (λ n lines. with_cap n (lines_from judge_unit 2 [] lines)) c.args.bytes.now _
+      (sym c.in_err-most.was ∙ (c.units_heading.ensures.answer ∙ ap (heading_at cap_of) c.new-cursor.ensures)));
   grammar = units_law c.args.bytes.now;
 }
 
-pub returns-in-Err-add_line : goal.returns-in-Err-add_line
-returns-in-Err-add_line c =
-    let u = unit_said c.in-Ok-answer.line in
+pub returns-in_err-add_line : goal.returns-in_err-add_line
+returns-in_err-add_line c =
+    let u = unit_said c.in_ok-line.line in
     let us = c.loop-answer.invariant.0 in
     let p = position_of c.loop-answer.cursor in
-    let a = unit_ahead (names_of c.loop-answer.rig) p c.next_unit.result c.in-Some.answer c.in-Ok-answer.line c.in-Some.is c.in-Ok-answer.is c.next_unit.ensures.answer in
+    let a = unit_ahead (names_of c.loop-answer.rig) p c.next_unit.result c.in-Some.answer c.in_ok-line.line c.in-Some.is c.in_ok-line.was c.next_unit.ensures.answer in
     record {
-      filled = (
-        c.in-Ok.most,
+      filled = subst (λ r. UnitsFilled c.args.bytes.now r c.add_line.new.rig) (sym (err_given _ _ c.from_residual-in_err-add_line.ensures.1 ∙ ap (λ e. Err e) c.in_err-add_line.ensures)) (
+        c.in_ok-most.most,
         p.line + 1,
         us,
         u,
         ahead (passed p (length a.text)),
-        c.loop-answer.invariant.2 ∙ ap (with_cap c.in-Ok.most) (units_on (names_of c.loop-answer.rig) us u p c.loop-answer.invariant.1.names a),
+        c.loop-answer.invariant.2 ∙ ap (with_cap c.in_ok-most.most) (units_on (names_of c.loop-answer.rig) us u p c.loop-answer.invariant.1.names a),
       );
       grammar = units_law c.args.bytes.now;
     }
 
-pub returns-in-Err-answer : goal.returns-in-Err-answer
-returns-in-Err-answer c =
+pub returns-in_err-line : goal.returns-in_err-line
+returns-in_err-line c =
     let p = position_of c.loop-answer.cursor in
-    let e : Some (Err c.in-Err-answer.fault) ≡ answer_at (judge_unit c.loop-answer.invariant.0) p =
-    sym (ap unit_given (c.in-Some.is ∙ ap Some c.in-Err-answer.is)) ∙ (c.next_unit.ensures.answer ∙ ap (λ known. answer_at (unit_line known) p) c.loop-answer.invariant.1.names) in
+    let e : Some (Err c.in_err-line.field-0.0) ≡ answer_at (judge_unit c.loop-answer.invariant.0) p =
+    sym (ap unit_given (c.in-Some.is ∙ ap Some c.in_err-line.was)) ∙ (c.next_unit.ensures.answer ∙ ap (λ known. answer_at (unit_line known) p) c.loop-answer.invariant.1.names) in
     record {
-      filled = c.loop-answer.invariant.2 ∙ ap (with_cap c.in-Ok.most) (lines_refused judge_unit c.loop-answer.invariant.0 p c.in-Err-answer.fault e);
+      filled = subst (λ r. UnitsFilled c.args.bytes.now r c.loop-answer.rig) (sym (err_given _ _ c.from_residual-in_err-line.ensures.1))
+          (c.loop-answer.invariant.2 ∙ ap (with_cap c.in_ok-most.most) (lines_refused judge_unit c.loop-answer.invariant.0 p c.in_err-line.field-0.0 e));
       grammar = units_law c.args.bytes.now;
     }
 
@@ -52,32 +55,32 @@ returns c = record { filled = search rules; grammar = units_law c.args.bytes.now
 
 pub loop-answer-init : goal.loop-answer-init
 loop-answer-init c =
-    let h = head_read cap_of (λ n lines. with_cap n (lines_from judge_unit 2 [] lines)) c.args.bytes.now c.in-Ok.most (c.in-Ok.ensures.answer ∙ ap (heading_at cap_of) c.new-cursor.ensures) in
+    let h = head_read cap_of (λ n lines. with_cap n (lines_from judge_unit 2 [] lines)) c.args.bytes.now c.in_ok-most.most (sym c.in_ok-most.was ∙ (c.units_heading.ensures.answer ∙ ap (heading_at cap_of) c.new-cursor.ensures)) in
     let q : position_of c.units_heading.new.self ≡ passed (start c.args.bytes.now) (length h.first) =
-    c.in-Ok.ensures.cursor ∙ (ap (after_heading cap_of) c.new-cursor.ensures ∙ h.after) in (
+    c.units_heading.ensures.cursor ∙ (ap (after_heading cap_of) c.new-cursor.ensures ∙ h.after) in (
       [],
       record { units = c.clear.ensures.units; names = c.clear.ensures.names },
-      h.file ∙ sym (ap (λ p. with_cap c.in-Ok.most (lines_from judge_unit p.line [] (ahead p))) q),
+      h.file ∙ sym (ap (λ p. with_cap c.in_ok-most.most (lines_from judge_unit p.line [] (ahead p))) q),
     )
 
 pub add_line-requires : goal.add_line-requires
 add_line-requires c =
-    let a = unit_ahead (names_of c.loop-answer.rig) (position_of c.loop-answer.cursor) c.next_unit.result c.in-Some.answer c.in-Ok-answer.line c.in-Some.is c.in-Ok-answer.is c.next_unit.ensures.answer in
-    unit_proper (names_of c.loop-answer.rig) a.text (unit_said c.in-Ok-answer.line) a.judged
+    let a = unit_ahead (names_of c.loop-answer.rig) (position_of c.loop-answer.cursor) c.next_unit.result c.in-Some.answer c.in_ok-line.line c.in-Some.is c.in_ok-line.was c.next_unit.ensures.answer in
+    unit_proper (names_of c.loop-answer.rig) a.text (unit_said c.in_ok-line.line) a.judged
 
 pub loop-answer-preserved : goal.loop-answer-preserved
 loop-answer-preserved c =
-    let u = unit_said c.in-Ok-answer.line in
+    let u = unit_said c.in_ok-line.line in
     let us = c.loop-answer.invariant.0 in
-    let a = unit_ahead (names_of c.loop-answer.rig) (position_of c.loop-answer.cursor) c.next_unit.result c.in-Some.answer c.in-Ok-answer.line c.in-Some.is c.in-Ok-answer.is c.next_unit.ensures.answer in
+    let a = unit_ahead (names_of c.loop-answer.rig) (position_of c.loop-answer.cursor) c.next_unit.result c.in-Some.answer c.in_ok-line.line c.in-Some.is c.in_ok-line.was c.next_unit.ensures.answer in
     let q : position_of c.next_unit.new.self ≡ passed (position_of c.loop-answer.cursor) (length a.text) = c.next_unit.ensures.cursor ∙ a.after in (
       us ++ u ∷ [],
-      held_more c.loop-answer.rig c.add_line.new.rig us u c.loop-answer.invariant.1 c.in_default-add_line.ensures,
-      c.loop-answer.invariant.2 ∙ ap (with_cap c.in-Ok.most) (units_on (names_of c.loop-answer.rig) us u (position_of c.loop-answer.cursor) c.loop-answer.invariant.1.names a
+      held_more c.loop-answer.rig c.add_line.new.rig us u c.loop-answer.invariant.1 c.in_ok-add_line.ensures,
+      c.loop-answer.invariant.2 ∙ ap (with_cap c.in_ok-most.most) (units_on (names_of c.loop-answer.rig) us u (position_of c.loop-answer.cursor) c.loop-answer.invariant.1.names a
           ∙ sym (ap (λ p. lines_from judge_unit p.line (us ++ u ∷ []) (ahead p)) q)),
     )
 
 pub loop-answer-smaller : goal.loop-answer-smaller
 loop-answer-smaller c =
-    let a = unit_ahead (names_of c.loop-answer.rig) (position_of c.loop-answer.cursor) c.next_unit.result c.in-Some.answer c.in-Ok-answer.line c.in-Some.is c.in-Ok-answer.is c.next_unit.ensures.answer in
+    let a = unit_ahead (names_of c.loop-answer.rig) (position_of c.loop-answer.cursor) c.next_unit.result c.in-Some.answer c.in_ok-line.line c.in-Some.is c.in_ok-line.was c.next_unit.ensures.answer in
     fewer_left (position_of c.loop-answer.cursor) (position_of c.next_unit.new.self) (length a.text) (c.next_unit.ensures.cursor ∙ a.after) c.next_unit.new.self.within
