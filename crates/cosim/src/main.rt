@@ -1,7 +1,7 @@
 // Checks a units file and a wires file, and prints what they say or why one of them is refused.
 #![tactic(auto)]
 
-use anyhow::anyhow;
+use anyhow::Context;
 use file_rig::table::FileRig;
 use load::fault::LoadFault;
 use load::units::load_units;
@@ -10,7 +10,7 @@ use names::name::Name;
 use report::no_memory::NoMemory;
 use report::refused::{FileKind, RefusedFile};
 use report::unit::UnitText;
-use report::wire::WireText;
+use report::wire::{EndText, WireText};
 use rig::Rig;
 use std::process::ExitCode;
 use std::{env, fs, io};
@@ -21,6 +21,7 @@ const USAGE: &str = "usage: cosim check UNITS WIRES
 prints the cap, the units and the wires that the two files tell, or the first line that is refused";
 
 /// Why the program ends with status 1.
+// No `Option` of an error: that `None` is told already it would not say.
 #[derive(Drop)]
 enum Stop {
     /// What is wrong has been printed.
@@ -41,15 +42,17 @@ impl From<io::Error> for Stop {
     }
 }
 
+/// Why the program ends, once what is wrong has been printed.
+fn told(printed: io::Result<()>) -> Stop {
+    match printed {
+        Ok(()) => Stop::Told,
+        Err(error) => Stop::from(error),
+    }
+}
+
 /// The bytes of a file; where they cannot be read, standard error tells its path.
 fn read_file(rt: &HostRuntime, path: &str) -> Result<Vec<u8>, Stop> {
-    match fs::read(rt, path) {
-        Ok(bytes) => Ok(bytes),
-        Err(error) => {
-            eprintln!(rt; "{path}: {error}")?;
-            Err(Stop::Told)
-        }
-    }
+    fs::read(rt, path).map_err(|error| told(eprintln!(rt; "{path}: {error}")))
 }
 
 /// Fills the rig with the units of a file, and answers the file's cap.
@@ -59,20 +62,21 @@ fn take_units<'a>(
     bytes: &'a [u8],
     rig: &mut FileRig,
 ) -> Result<u32, Stop> {
-    match load_units(bytes, rig) {
-        Ok(most) => return Ok(most),
-        Err(LoadFault::Refused(fault)) => rt.println(RefusedFile {
-            path,
-            file: FileKind::Units,
-            bytes,
-            fault,
-        })?,
-        Err(LoadFault::NoMemory) => rt.println(NoMemory { path })?,
-    }
-    Err(Stop::Told)
+    load_units(bytes, rig).map_err(|fault| {
+        told(match fault {
+            LoadFault::Refused(fault) => rt.println(RefusedFile {
+                path,
+                file: FileKind::Units,
+                bytes,
+                fault,
+            }),
+            LoadFault::NoMemory => rt.println(NoMemory { path }),
+        })
+    })
 }
 
 /// Fills the wiring with the wires of a file.
+// Not one function with `take_units`: they share the path and the bytes, and nothing that they do with them.
 fn take_wires<'a>(
     rt: &HostRuntime,
     path: &'a str,
@@ -80,24 +84,19 @@ fn take_wires<'a>(
     rig: &FileRig,
     wiring: &mut Wiring,
 ) -> Result<(), Stop> {
-    let Err(fault) = load_wires(bytes, rig, wiring) else {
-        return Ok(());
-    };
-    rt.println(RefusedFile {
-        path,
-        file: FileKind::Wires,
-        bytes,
-        fault,
-    })?;
-    Err(Stop::Told)
+    load_wires(bytes, rig, wiring).map_err(|fault| {
+        told(rt.println(RefusedFile {
+            path,
+            file: FileKind::Wires,
+            bytes,
+            fault,
+        }))
+    })
 }
 
 /// The name of a unit of the rig.
 fn name_of(rig: &FileRig, unit: usize) -> anyhow::Result<Name> {
-    match rig.name(unit) {
-        Some(name) => Ok(name),
-        None => Err(anyhow!("a unit has no name")),
-    }
+    rig.name(unit).context("a unit has no name")
 }
 
 /// Prints every unit.
@@ -114,21 +113,28 @@ fn print_units(rt: &HostRuntime, rig: &FileRig) -> anyhow::Result<()> {
     Ok(())
 }
 
+/// An end of a wire by the name of its unit.
+fn end_of(rig: &FileRig, end: Port) -> anyhow::Result<EndText> {
+    Ok(EndText {
+        name: name_of(rig, end.unit)?,
+        port: end.port,
+    })
+}
+
 /// Prints the wire to one input, where there is one.
 fn print_wire(rt: &HostRuntime, rig: &FileRig, wiring: &Wiring, to: Port) -> anyhow::Result<()> {
     let Some(from) = wiring.source(to) else {
         return Ok(());
     };
     rt.println(WireText {
-        from: name_of(rig, from.unit)?,
-        output: from.port,
-        to: name_of(rig, to.unit)?,
-        input: to.port,
+        from: end_of(rig, from)?,
+        to: end_of(rig, to)?,
     })?;
     Ok(())
 }
 
 /// Prints every wire, in the order of the inputs that they lead to.
+// By number: a wiring answers of one input at a time, and lends no rows.
 fn print_wires(rt: &HostRuntime, rig: &FileRig, wiring: &Wiring) -> anyhow::Result<()> {
     for unit in 0..16 {
         for port in 0..8 {
@@ -154,8 +160,7 @@ fn check(rt: &HostRuntime, units_path: &str, wires_path: &str) -> Result<(), Sto
 
 /// The words of the command line, the program's name first.
 fn command_line(rt: &HostRuntime) -> io::Result<Vec<String>> {
-    let words = env::args(rt)?.collect(rt.alloc())?;
-    Ok(words)
+    Ok(env::args(rt)?.collect(rt.alloc())?)
 }
 
 /// Does what the words of the command line say.
@@ -165,10 +170,7 @@ fn run(rt: &HostRuntime) -> Result<(), Stop> {
         [_, command, units, wires] if command.as_str() == "check" => {
             check(rt, units.as_str(), wires.as_str())
         }
-        _ => {
-            rt.eprintln(USAGE)?;
-            Err(Stop::Told)
-        }
+        _ => Err(told(rt.eprintln(USAGE))),
     }
 }
 

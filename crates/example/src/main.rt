@@ -2,12 +2,15 @@
 // Eight ticks are proposed at each turn. Where a unit answers fewer, both are put back and that many are tried.
 #![tactic(auto)]
 
-use anyhow::anyhow;
+ghost use Rattle.std.specs.Prelude.{◌≤◌, IfOk};
+
+use anyhow::bail;
 use file_rig::table::FileRig;
 use kinds::design::Design;
 use limit_rig::limit::Limit;
 use pair_rig::pair::Pair;
 use rig::Rig;
+use rig::cause::RigFault;
 use trip_rig::trip::TripRig;
 
 const TANK: usize = 0;
@@ -19,7 +22,9 @@ const PROPOSED: u32 = 8;
 const LIMIT: u32 = 5;
 
 /// Steps every unit by h and prints what each answers. Ends at the first short answer.
-fn try_step<R: Rig<Signal = i32>>(rt: &HostRuntime, rig: &mut R, h: u32) -> anyhow::Result<u32> {
+fn try_step<R: Rig<Signal = i32>>(rt: &HostRuntime, rig: &mut R, h: u32) -> anyhow::Result<u32>
+    ensures { IfOk result (λ answer. answer ≤ h) }
+{
     for unit in 0..rig.units() {
         let answer = rig.step(unit, h)?;
         println!(rt; "  step {h}: unit {unit} answers {answer}")?;
@@ -30,43 +35,32 @@ fn try_step<R: Rig<Signal = i32>>(rt: &HostRuntime, rig: &mut R, h: u32) -> anyh
     Ok(h)
 }
 
-fn save_all<R: Rig<Signal = i32>>(rig: &mut R) -> anyhow::Result<()> {
+/// Makes a call for each unit, up to the first that is refused.
+fn for_each_unit<R, F>(rig: &mut R, call: F) -> Result<(), RigFault>
+where
+    R: Rig<Signal = i32>,
+    F: Fn(&mut R, usize) -> Result<(), RigFault>,
+    requires { F.IsAlwaysCallable call }
+{
     for unit in 0..rig.units() {
-        rig.save(unit, 0)?;
-    }
-    Ok(())
-}
-
-fn restore_all<R: Rig<Signal = i32>>(rig: &mut R) -> anyhow::Result<()> {
-    for unit in 0..rig.units() {
-        rig.restore(unit, 0)?;
-    }
-    Ok(())
-}
-
-fn free_all<R: Rig<Signal = i32>>(rig: &mut R) -> anyhow::Result<()> {
-    for unit in 0..rig.units() {
-        rig.free(unit, 0)?;
+        call(rig, unit)?;
     }
     Ok(())
 }
 
 /// The longest step up to the proposal that every unit takes; 0 where a unit takes none, all units then being as they were.
 fn advance<R: Rig<Signal = i32>>(rt: &HostRuntime, rig: &mut R) -> anyhow::Result<u32> {
-    save_all(rig)?;
+    for_each_unit(rig, |rig, unit| rig.save(unit, 0))?;
     let mut h = PROPOSED;
-    for _ in 0..=PROPOSED {
+    while h > 0 {
         let answer = try_step(rt, rig, h)?;
         if answer == h {
             break;
         }
-        restore_all(rig)?;
+        for_each_unit(rig, |rig, unit| rig.restore(unit, 0))?;
         h = answer;
-        if h == 0 {
-            break;
-        }
     }
-    free_all(rig)?;
+    for_each_unit(rig, |rig, unit| rig.free(unit, 0))?;
     Ok(h)
 }
 
@@ -91,10 +85,10 @@ fn fill<R: Rig<Signal = i32>>(rt: &HostRuntime, rig: &mut R) -> anyhow::Result<(
         }
         time = time.saturating_add(ticks);
     }
-    Err(anyhow!("the tank did not fill"))
+    bail!("the tank did not fill")
 }
 
-fn run(rt: &HostRuntime) -> anyhow::Result<()> {
+fn main(rt: HostRuntime) -> anyhow::Result<()> {
     let mut tank = FileRig::new(rt.alloc());
     tank.add(
         b"tank",
@@ -107,13 +101,9 @@ fn run(rt: &HostRuntime) -> anyhow::Result<()> {
     )?;
     let inflow = TripRig::new(rt.alloc(), &[4, 3, 3, -2, 6, 4])?;
     let mut rig = Limit::new(Pair::new(tank, inflow), LIMIT);
-    fill(rt, &mut rig)?;
+    fill(&rt, &mut rig)?;
     let (tank, _) = rig.into_below().into_parts();
     let level = tank.get(TANK, 0)?;
     println!(rt; "the tank alone: level {level}")?;
     Ok(())
-}
-
-fn main(rt: HostRuntime) -> anyhow::Result<()> {
-    run(&rt)
 }

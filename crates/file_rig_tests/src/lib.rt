@@ -6,6 +6,7 @@ mod tests {
     use file_rig::table::FileRig;
     use file_rig::table::fault::AddFault;
     use kinds::design::{Design, DesignFault};
+    use refusal::Code;
     use rig::Rig;
     use rig::cause::RigFault;
     use std::alloc::Global;
@@ -18,14 +19,19 @@ mod tests {
         m: 100,
     };
 
-    // Number, layer, a and b of a refusal; zeros where there was none.
-    fn told<T: Drop>(answer: Result<T, RigFault>) -> (usize, usize, usize, usize) {
-        match answer {
-            Ok(_) => (0, 0, 0, 0),
-            Err(fault) => {
-                let code = fault.code();
-                (code.number, code.layer, code.a, code.b)
-            }
+    // The refusal of a call by its numbers, where there is one.
+    // This and `code` stand in layers_tests too: a library for so little would be no plainer.
+    fn refused<T: Drop>(answer: Result<T, RigFault>) -> Option<Code> {
+        answer.err().map(Code::from)
+    }
+
+    // A refusal by its four numbers.
+    fn code(number: usize, layer: usize, a: usize, b: usize) -> Code {
+        Code {
+            number,
+            layer,
+            a,
+            b,
         }
     }
 
@@ -41,36 +47,36 @@ mod tests {
     fn what_is_not_there(rt: HostRuntime) -> Result<(), Fail> {
         let mut rig = two_units(rt.alloc())?;
         assert_eq!(rt; rig.units(), 2);
-        assert_eq!(rt; told(rig.put(2, 7, 1)), (1, 4, 2, 7));
-        assert_eq!(rt; told(rig.put(0, 0, 1)), (1, 4, 0, 0));
-        assert_eq!(rt; told(rig.put(1, 1, 1)), (1, 4, 1, 1));
-        assert_eq!(rt; told(rig.get(1, 1)), (1, 4, 1, 1));
-        assert_eq!(rt; told(rig.mask(1, 3)), (1, 4, 1, 3));
-        assert_eq!(rt; told(rig.ports(9)), (1, 4, 9, 0));
-        assert_eq!(rt; told(rig.status(16)), (1, 4, 16, 0));
-        assert_eq!(rt; told(rig.step(2, 0)), (1, 4, 2, 0));
-        assert_eq!(rt; told(rig.save(1, 4)), (1, 4, 1, 4));
-        assert_eq!(rt; told(rig.restore(1, 4)), (1, 4, 1, 4));
-        assert_eq!(rt; told(rig.free(5, 9)), (1, 4, 5, 9));
+        assert_eq!(rt; refused(rig.put(2, 7, 1)), Some(code(1, 4, 2, 7)));
+        assert_eq!(rt; refused(rig.put(0, 0, 1)), Some(code(1, 4, 0, 0)));
+        assert_eq!(rt; refused(rig.put(1, 1, 1)), Some(code(1, 4, 1, 1)));
+        assert_eq!(rt; refused(rig.get(1, 1)), Some(code(1, 4, 1, 1)));
+        assert_eq!(rt; refused(rig.mask(1, 3)), Some(code(1, 4, 1, 3)));
+        assert_eq!(rt; refused(rig.ports(9)), Some(code(1, 4, 9, 0)));
+        assert_eq!(rt; refused(rig.status(16)), Some(code(1, 4, 16, 0)));
+        assert_eq!(rt; refused(rig.step(2, 0)), Some(code(1, 4, 2, 0)));
+        assert_eq!(rt; refused(rig.save(1, 4)), Some(code(1, 4, 1, 4)));
+        assert_eq!(rt; refused(rig.restore(1, 4)), Some(code(1, 4, 1, 4)));
+        assert_eq!(rt; refused(rig.free(5, 9)), Some(code(1, 4, 5, 9)));
         Ok(())
     }
 
     #[test]
     fn causes_in_their_order(rt: HostRuntime) -> Result<(), Fail> {
         let mut rig = two_units(rt.alloc())?;
-        assert_eq!(rt; told(rig.step(1, 0)), (2, 4, 1, 0));
-        assert_eq!(rt; told(rig.step(1, 1_000_001)), (2, 4, 1, 0));
-        assert_eq!(rt; told(rig.restore(1, 0)), (5, 4, 1, 0));
-        assert_eq!(rt; told(rig.free(1, 3)), (5, 4, 1, 3));
+        assert_eq!(rt; refused(rig.step(1, 0)), Some(code(2, 4, 1, 0)));
+        assert_eq!(rt; refused(rig.step(1, 1_000_001)), Some(code(2, 4, 1, 0)));
+        assert_eq!(rt; refused(rig.restore(1, 0)), Some(code(5, 4, 1, 0)));
+        assert_eq!(rt; refused(rig.free(1, 3)), Some(code(5, 4, 1, 3)));
         rig.save(1, 2)?;
-        assert_eq!(rt; told(rig.save(1, 2)), (4, 4, 1, 2));
+        assert_eq!(rt; refused(rig.save(1, 2)), Some(code(4, 4, 1, 2)));
         rig.put(1, 0, 3)?;
         assert_eq!(rt; rig.step(1, 10)?, 6);
-        assert_eq!(rt; told(rig.step(1, 0)), (2, 4, 1, 0));
-        assert_eq!(rt; told(rig.step(1, 1)), (3, 4, 1, 0));
-        assert_eq!(rt; told(rig.put(1, 0, 1)), (3, 4, 1, 0));
-        assert_eq!(rt; told(rig.get(1, 0)), (3, 4, 1, 0));
-        assert_eq!(rt; told(rig.save(1, 2)), (3, 4, 1, 2));
+        assert_eq!(rt; refused(rig.step(1, 0)), Some(code(2, 4, 1, 0)));
+        assert_eq!(rt; refused(rig.step(1, 1)), Some(code(3, 4, 1, 0)));
+        assert_eq!(rt; refused(rig.put(1, 0, 1)), Some(code(3, 4, 1, 0)));
+        assert_eq!(rt; refused(rig.get(1, 0)), Some(code(3, 4, 1, 0)));
+        assert_eq!(rt; refused(rig.save(1, 2)), Some(code(3, 4, 1, 2)));
         rig.restore(1, 2)?;
         assert_eq!(rt; rig.get(1, 0)?, 2);
         Ok(())

@@ -7,20 +7,26 @@ mod tests {
     use kinds::design::Design;
     use limit_rig::limit::Limit;
     use pair_rig::pair::Pair;
+    use refusal::Code;
     use rig::Rig;
     use rig::cause::RigFault;
     use std::alloc::Global;
     use std::test::Fail;
     use trip_rig::trip::TripRig;
 
-    // Number, layer, a and b of a refusal; zeros where there was none.
-    fn told<T: Drop>(answer: Result<T, RigFault>) -> (usize, usize, usize, usize) {
-        match answer {
-            Ok(_) => (0, 0, 0, 0),
-            Err(fault) => {
-                let code = fault.code();
-                (code.number, code.layer, code.a, code.b)
-            }
+    // The refusal of a call by its numbers, where there is one.
+    // This and `code` stand in file_rig_tests too: a library for so little would be no plainer.
+    fn refused<T: Drop>(answer: Result<T, RigFault>) -> Option<Code> {
+        answer.err().map(Code::from)
+    }
+
+    // A refusal by its four numbers.
+    fn code(number: usize, layer: usize, a: usize, b: usize) -> Code {
+        Code {
+            number,
+            layer,
+            a,
+            b,
         }
     }
 
@@ -42,7 +48,7 @@ mod tests {
         assert_eq!(rt; rig.step(0, 1)?, 1);
         assert_eq!(rt; rig.get(0, 0)?, 4);
         assert_eq!(rt; rig.step(0, 3)?, 2);
-        assert_eq!(rt; told(rig.get(0, 0)), (3, 4, 0, 0));
+        assert_eq!(rt; refused(rig.get(0, 0)), Some(code(3, 4, 0, 0)));
         rig.restore(0, 1)?;
         assert_eq!(rt; rig.get(0, 0)?, 0);
         assert_eq!(rt; rig.step(0, 1)?, 1);
@@ -50,7 +56,7 @@ mod tests {
         assert_eq!(rt; rig.step(0, 9)?, 9);
         assert_eq!(rt; rig.get(0, 0)?, 0);
         assert_eq!(rt; rig.step(0, 1)?, 0);
-        assert_eq!(rt; told(rig.put(0, 0, 1)), (1, 4, 0, 0));
+        assert_eq!(rt; refused(rig.put(0, 0, 1)), Some(code(1, 4, 0, 0)));
         Ok(())
     }
 
@@ -88,11 +94,11 @@ mod tests {
         let mut rig = Pair::new(constants(rt.alloc(), 2)?, trip);
         assert_eq!(rt; rig.units(), 3);
         assert_eq!(rt; rig.get(2, 0)?, 8);
-        assert_eq!(rt; told(rig.put(2, 1, 0)), (1, 4, 2, 1));
-        assert_eq!(rt; told(rig.free(2, 3)), (5, 4, 2, 3));
-        assert_eq!(rt; told(rig.step(3, 1)), (1, 4, 3, 0));
+        assert_eq!(rt; refused(rig.put(2, 1, 0)), Some(code(1, 4, 2, 1)));
+        assert_eq!(rt; refused(rig.free(2, 3)), Some(code(5, 4, 2, 3)));
+        assert_eq!(rt; refused(rig.step(3, 1)), Some(code(1, 4, 3, 0)));
         assert_eq!(rt; rig.step(2, 4)?, 3);
-        assert_eq!(rt; told(rig.get(2, 0)), (3, 4, 2, 0));
+        assert_eq!(rt; refused(rig.get(2, 0)), Some(code(3, 4, 2, 0)));
         let (constants, trip) = rig.into_parts();
         assert_eq!(rt; constants.units(), 2);
         assert!(rt; trip.status(0)?.loose);
@@ -104,7 +110,7 @@ mod tests {
         let trip = TripRig::new(rt.alloc(), &[3, 8])?;
         let rig = Pair::new(constants(rt.alloc(), 16)?, trip);
         assert_eq!(rt; rig.units(), 16);
-        assert_eq!(rt; told(rig.get(16, 0)), (1, 4, 16, 0));
+        assert_eq!(rt; refused(rig.get(16, 0)), Some(code(1, 4, 16, 0)));
         Ok(())
     }
 
@@ -115,8 +121,8 @@ mod tests {
         assert_eq!(rt; rig.step(0, 6)?, 6);
         rig.save(0, 0)?;
         assert_eq!(rt; rig.step(0, 7)?, 6);
-        assert_eq!(rt; told(rig.step(0, 1)), (3, 4, 0, 0));
-        assert_eq!(rt; told(rig.step(0, 0)), (2, 4, 0, 0));
+        assert_eq!(rt; refused(rig.step(0, 1)), Some(code(3, 4, 0, 0)));
+        assert_eq!(rt; refused(rig.step(0, 0)), Some(code(2, 4, 0, 0)));
         rig.restore(0, 0)?;
         assert_eq!(rt; rig.step(0, 1)?, 1);
         rig.save(1, 2)?;
@@ -136,7 +142,7 @@ mod tests {
         assert_eq!(rt; low.step(0, 2)?, 1);
         let mut high = Limit::new(constants(rt.alloc(), 1)?, 2_000_000);
         assert_eq!(rt; high.step(0, 1_000_000)?, 1_000_000);
-        assert_eq!(rt; told(high.step(0, 1_000_001)), (2, 4, 0, 0));
+        assert_eq!(rt; refused(high.step(0, 1_000_001)), Some(code(2, 4, 0, 0)));
         Ok(())
     }
 }

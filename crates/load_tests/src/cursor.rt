@@ -1,8 +1,10 @@
 // A cursor by itself: which line it gives, and where it stands after each call.
-use super::told::{FINE, Told, joined, sixteen, told_of};
+use super::told::{Told, joined, refused, sixteen};
 use file_rig::table::FileRig;
 use files::cursor::Cursor;
 use lines::fault::{FileFault, LineFault};
+use refusal::Code;
+use rig::Rig;
 use std::alloc::{AllocError, Global};
 use std::process::Abort;
 use std::test::Fail;
@@ -12,14 +14,15 @@ fn place(cursor: &Cursor<'_>) -> (usize, usize) {
     (cursor.line(), cursor.position())
 }
 
+// A line, and the name that is read from it.
+type Line = (&'static [u8], &'static [u8]);
+
+// How many of the lines are read, what follows them, and what the next call answers.
+type Stop = (usize, &'static [u8], Told);
+
 // A first line, the first few of some lines, and what follows them.
-fn begun(
-    heap: Global,
-    first: &[u8],
-    lines: &[(&[u8], &[u8])],
-    count: usize,
-    after: &[u8],
-) -> Result<Vec<u8>, AllocError> {
+fn begun(heap: Global, first: &[u8], lines: &[Line], stop: &Stop) -> Result<Vec<u8>, AllocError> {
+    let (count, after, _) = *stop;
     let mut file = joined(heap, &[first])?;
     for (text, _) in lines.iter().take(count) {
         file.extend_from_slice(text)?;
@@ -28,11 +31,67 @@ fn begun(
     Ok(file)
 }
 
-// How many of the lines are read, what follows them, and what the next call answers.
-type Stop = (usize, &'static [u8], Told);
+// What a cursor reads lines for.
+trait Reader {
+    // The name that the next line has, which later lines are read against; none at the end of the file.
+    fn next<'a>(&mut self, cursor: &mut Cursor<'a>) -> Result<Option<&'a [u8]>, FileFault>;
+}
+
+impl Reader for FileRig {
+    fn next<'a>(&mut self, cursor: &mut Cursor<'a>) -> Result<Option<&'a [u8]>, FileFault> {
+        let Some(line) = cursor.next_unit(self).transpose()? else {
+            return Ok(None);
+        };
+        let _ = self.add(line.name(), line.design());
+        Ok(Some(line.name()))
+    }
+}
+
+// The units between which wires are read.
+#[derive(Drop)]
+struct Units(FileRig);
+
+impl Reader for Units {
+    fn next<'a>(&mut self, cursor: &mut Cursor<'a>) -> Result<Option<&'a [u8]>, FileFault> {
+        let line = cursor.next_wire(&self.0).transpose()?;
+        Ok(line.map(|line| line.target().name))
+    }
+}
+
+// Reads the lines after the first one, and where they stop. The cursor's place is checked before and after each call.
+fn check_lines<'a, R: Reader>(
+    rt: &impl Abort,
+    reader: &mut R,
+    cursor: &mut Cursor<'a>,
+    lines: &[Line],
+    stop: &Stop,
+    end: usize,
+) -> Result<(), Fail> {
+    let (count, after, told) = *stop;
+    let (mut line, mut at) = place(cursor);
+    for (text, name) in lines.iter().take(count) {
+        assert_eq!(rt; place(cursor), (line, at), "{after:?}");
+        let Ok(Some(found)) = reader.next(cursor) else {
+            return Err(Fail::new("a line is not read"));
+        };
+        assert_eq!(rt; found, *name);
+        line = line.saturating_add(1);
+        at = at.saturating_add(text.len());
+    }
+    assert_eq!(rt; place(cursor), (line, at), "{after:?}");
+    match reader.next(cursor) {
+        Ok(Some(_)) => return Err(Fail::new("a line too many")),
+        Ok(None) => assert_eq!(rt; None, told, "{after:?}"),
+        Err(fault) => assert_eq!(rt; Some(Code::from(fault)), told, "{after:?}"),
+    }
+    assert_eq!(rt; place(cursor), (line, end), "{after:?}");
+    assert!(rt; matches!(reader.next(cursor), Ok(None)), "{after:?}");
+    assert_eq!(rt; place(cursor), (line, end), "{after:?}");
+    Ok(())
+}
 
 // Lines of a units file, with their names.
-const UNITS: [(&[u8], &[u8]); 4] = [
+const UNITS: [Line; 4] = [
     (b"K,a,1\n", b"a"),
     (b"I,tank,2,0,20,100\n", b"tank"),
     (b"G,net,1,-1,0\n", b"net"),
@@ -40,125 +99,64 @@ const UNITS: [(&[u8], &[u8]); 4] = [
 ];
 
 const UNITS_STOPS: [Stop; 12] = [
-    (0, b"", FINE),
-    (1, b"", FINE),
-    (4, b"", FINE),
-    (0, b"\n", (11, 1, 2, 0)),
-    (0, b"K,a,1", (11, 1, 2, 0)),
-    (1, b"K,b\nK,c,1\n", (12, 1, 3, 0)),
-    (1, b"K,a,1\nK,c,1\nK,d,1\n", (15, 1, 3, 2)),
-    (2, b"K,Bad,1\n\n\n", (14, 1, 4, 2)),
-    (3, b"I,b,1,2,3,1\nX", (13, 1, 5, 0)),
-    (3, b"W,a,0,a,0\n", (11, 1, 5, 0)),
-    (4, b"K,b,x\nK,b,1\n", (13, 1, 6, 3)),
-    (4, b"K,b,1", (11, 1, 6, 0)),
+    (0, b"", None),
+    (1, b"", None),
+    (4, b"", None),
+    (0, b"\n", refused!(11, 1, 2, 0)),
+    (0, b"K,a,1", refused!(11, 1, 2, 0)),
+    (1, b"K,b\nK,c,1\n", refused!(12, 1, 3, 0)),
+    (1, b"K,a,1\nK,c,1\nK,d,1\n", refused!(15, 1, 3, 2)),
+    (2, b"K,Bad,1\n\n\n", refused!(14, 1, 4, 2)),
+    (3, b"I,b,1,2,3,1\nX", refused!(13, 1, 5, 0)),
+    (3, b"W,a,0,a,0\n", refused!(11, 1, 5, 0)),
+    (4, b"K,b,x\nK,b,1\n", refused!(13, 1, 6, 3)),
+    (4, b"K,b,1", refused!(11, 1, 6, 0)),
 ];
-
-fn units_walk(
-    rt: &impl Abort,
-    heap: Global,
-    lines: &[(&[u8], &[u8])],
-    row: usize,
-    stop: &Stop,
-) -> Result<(), Fail> {
-    let (count, after, told) = *stop;
-    let file = begun(heap, b"UNITS,1,9\n", lines, count, after)?;
-    let mut rig = FileRig::new(heap);
-    let mut cursor = Cursor::new(&file);
-    assert_eq!(rt; place(&cursor), (1, 0), "stop {row}");
-    assert_eq!(rt; cursor.units_heading(), Ok(9), "stop {row}");
-    let mut line: usize = 2;
-    let mut at: usize = 10;
-    for (text, name) in lines.iter().take(count) {
-        assert_eq!(rt; place(&cursor), (line, at), "stop {row}");
-        let Some(Ok(read)) = cursor.next_unit(&rig) else {
-            return Err(Fail::new("a line is not read"));
-        };
-        assert_eq!(rt; read.name(), *name, "stop {row}");
-        rig.add(read.name(), read.design())?;
-        line = line.saturating_add(1);
-        at = at.saturating_add(text.len());
-    }
-    assert_eq!(rt; place(&cursor), (line, at), "stop {row}");
-    match cursor.next_unit(&rig) {
-        Some(Ok(_)) => return Err(Fail::new("a line too many")),
-        Some(Err(fault)) => assert_eq!(rt; told_of(fault), told, "stop {row}"),
-        None => assert_eq!(rt; told, FINE, "stop {row}"),
-    }
-    assert_eq!(rt; place(&cursor), (line, file.len()), "stop {row}");
-    assert!(rt; cursor.next_unit(&rig).is_none(), "stop {row}");
-    assert_eq!(rt; place(&cursor), (line, file.len()), "stop {row}");
-    Ok(())
-}
 
 #[test]
 fn a_cursor_over_units(rt: HostRuntime) -> Result<(), Fail> {
-    for (row, stop) in UNITS_STOPS.iter().enumerate() {
-        units_walk(&rt, rt.alloc(), &UNITS, row, stop)?;
+    for stop in &UNITS_STOPS {
+        let file = begun(rt.alloc(), b"UNITS,1,9\n", &UNITS, stop)?;
+        let mut cursor = Cursor::new(&file);
+        assert_eq!(rt; place(&cursor), (1, 0));
+        assert_eq!(rt; cursor.units_heading(), Ok(9));
+        assert_eq!(rt; place(&cursor), (2, 10));
+        let mut rig = FileRig::new(rt.alloc());
+        check_lines(&rt, &mut rig, &mut cursor, &UNITS, stop, file.len())?;
+        assert_eq!(rt; rig.units(), stop.0);
     }
     Ok(())
 }
 
 // Lines of a wires file, with the names of the units that the wires lead to.
-const WIRES: [(&[u8], &[u8]); 3] = [
+const WIRES: [Line; 3] = [
     (b"W,a,0,b,0\n", b"b"),
     (b"W,tank,7,winch,3\n", b"winch"),
     (b"W,used,3,12345678,7\n", b"12345678"),
 ];
 
 const WIRES_STOPS: [Stop; 9] = [
-    (0, b"", FINE),
-    (3, b"", FINE),
-    (0, b"\n", (11, 1, 2, 0)),
-    (0, b"W,a,0,b,0", (11, 1, 2, 0)),
-    (1, b"W,a,0\nW,a,0,b,1\n", (12, 1, 3, 0)),
-    (1, b"W,nobody,0,b,0\n\n", (17, 1, 3, 2)),
-    (2, b"W,a,0,Bad,0\nX", (14, 1, 4, 4)),
-    (3, b"W,a,8,b,0\n", (13, 1, 5, 3)),
-    (3, b"W", (11, 1, 5, 0)),
+    (0, b"", None),
+    (3, b"", None),
+    (0, b"\n", refused!(11, 1, 2, 0)),
+    (0, b"W,a,0,b,0", refused!(11, 1, 2, 0)),
+    (1, b"W,a,0\nW,a,0,b,1\n", refused!(12, 1, 3, 0)),
+    (1, b"W,nobody,0,b,0\n\n", refused!(17, 1, 3, 2)),
+    (2, b"W,a,0,Bad,0\nX", refused!(14, 1, 4, 4)),
+    (3, b"W,a,8,b,0\n", refused!(13, 1, 5, 3)),
+    (3, b"W", refused!(11, 1, 5, 0)),
 ];
-
-fn wires_walk(
-    rt: &impl Abort,
-    heap: Global,
-    rig: &FileRig,
-    lines: &[(&[u8], &[u8])],
-    row: usize,
-    stop: &Stop,
-) -> Result<(), Fail> {
-    let (count, after, told) = *stop;
-    let file = begun(heap, b"WIRES,1\n", lines, count, after)?;
-    let mut cursor = Cursor::new(&file);
-    assert_eq!(rt; place(&cursor), (1, 0), "stop {row}");
-    assert_eq!(rt; cursor.wires_heading(), Ok(()), "stop {row}");
-    let mut line: usize = 2;
-    let mut at: usize = 8;
-    for (text, name) in lines.iter().take(count) {
-        assert_eq!(rt; place(&cursor), (line, at), "stop {row}");
-        let Some(Ok(read)) = cursor.next_wire(rig) else {
-            return Err(Fail::new("a line is not read"));
-        };
-        assert_eq!(rt; read.target().0, *name, "stop {row}");
-        line = line.saturating_add(1);
-        at = at.saturating_add(text.len());
-    }
-    assert_eq!(rt; place(&cursor), (line, at), "stop {row}");
-    match cursor.next_wire(rig) {
-        Some(Ok(_)) => return Err(Fail::new("a line too many")),
-        Some(Err(fault)) => assert_eq!(rt; told_of(fault), told, "stop {row}"),
-        None => assert_eq!(rt; told, FINE, "stop {row}"),
-    }
-    assert_eq!(rt; place(&cursor), (line, file.len()), "stop {row}");
-    assert!(rt; cursor.next_wire(rig).is_none(), "stop {row}");
-    assert_eq!(rt; place(&cursor), (line, file.len()), "stop {row}");
-    Ok(())
-}
 
 #[test]
 fn a_cursor_over_wires(rt: HostRuntime) -> Result<(), Fail> {
-    let rig = sixteen(rt.alloc());
-    for (row, stop) in WIRES_STOPS.iter().enumerate() {
-        wires_walk(&rt, rt.alloc(), &rig, &WIRES, row, stop)?;
+    let mut units = Units(sixteen(rt.alloc()));
+    for stop in &WIRES_STOPS {
+        let file = begun(rt.alloc(), b"WIRES,1\n", &WIRES, stop)?;
+        let mut cursor = Cursor::new(&file);
+        assert_eq!(rt; place(&cursor), (1, 0));
+        assert_eq!(rt; cursor.wires_heading(), Ok(()));
+        assert_eq!(rt; place(&cursor), (2, 8));
+        check_lines(&rt, &mut units, &mut cursor, &WIRES, stop, file.len())?;
     }
     Ok(())
 }
@@ -177,7 +175,7 @@ fn first_end<'a>(file: &'a [u8], rig: &FileRig) -> &'a [u8] {
     let mut cursor = Cursor::new(file);
     let _ = cursor.wires_heading();
     match cursor.next_wire(rig) {
-        Some(Ok(line)) => line.source().0,
+        Some(Ok(line)) => line.source().name,
         _ => b"",
     }
 }

@@ -1,24 +1,40 @@
-// A load's answer by its numbers, and what the tests of more than one module need.
+// What a load answers by its numbers, and what the tests of more than one module need.
 use file_rig::table::FileRig;
-use lines::fault::FileFault;
-use load::fault::LoadFault;
 use load::units::load_units;
 use load::wires::load_wires;
+use refusal::Code;
 use rig::Rig;
 use std::alloc::{AllocError, Global};
-use std::fmt::Debug;
 use std::process::Abort;
 use std::test::Fail;
 use wiring::port::Port;
 use wiring::table::Wiring;
 
-/// Number, layer, a and b of a refusal; zeros where there was none.
-pub(crate) type Told = (usize, usize, usize, usize);
+/// The refusal of a load, where there is one.
+pub(crate) type Told = Option<Code>;
 
-pub(crate) const FINE: Told = (0, 0, 0, 0);
+/// A refusal by its number, layer, a and b. A constant may call no function, so the tables write this.
+macro_rules! refused {
+    ($number:expr, $layer:expr, $a:expr, $b:expr) => {
+        Some(Code {
+            number: $number,
+            layer: $layer,
+            a: $a,
+            b: $b,
+        })
+    };
+}
+
+pub(crate) use refused;
 
 /// A line that cannot be read, with the number and the field of its refusal.
 pub(crate) type BadLine = (&'static [u8], usize, usize);
+
+/// The beginning of a file, and the number of the line that follows.
+pub(crate) type Beginning = (&'static [u8], usize);
+
+/// A number of a line: what stands before and after it in a file, and its field.
+pub(crate) type Number = (&'static [u8], &'static [u8], usize);
 
 /// Texts that are no numbers, whatever field they stand in.
 pub(crate) const NOT_NUMBERS: [&[u8]; 30] = [
@@ -63,78 +79,117 @@ pub(crate) fn joined(heap: Global, parts: &[&[u8]]) -> Result<Vec<u8>, AllocErro
     Ok(text)
 }
 
-pub(crate) fn told_of(fault: FileFault) -> Told {
-    let code = fault.code();
-    (code.number, code.layer, code.a, code.b)
+/// What files are loaded into: a rig by units files, a wiring by wires files.
+pub(crate) trait Destination {
+    /// A file of one unit or one wire.
+    const ONE: &'static [u8];
+
+    /// Loads a file, and answers its refusal.
+    fn load(&mut self, file: &[u8]) -> Result<Told, Fail>;
+
+    /// How many units or wires there are.
+    fn count(&self) -> usize;
 }
 
-// Loads a units file over a rig of one unit: the units before, the refusal, and the units then.
-fn units_told(bytes: &[u8], rig: &mut FileRig) -> (usize, Told, usize) {
-    let _ = load_units(b"UNITS,1,9\nK,old,1\n", rig);
-    let before = rig.units();
-    let told = match load_units(bytes, rig) {
-        Ok(_) => FINE,
-        Err(LoadFault::Refused(fault)) => told_of(fault),
-        Err(LoadFault::NoMemory) => (0, 0, 0, 1),
-    };
-    (before, told, rig.units())
+impl Destination for FileRig {
+    const ONE: &'static [u8] = b"UNITS,1,9\nK,old,1\n";
+
+    fn load(&mut self, file: &[u8]) -> Result<Told, Fail> {
+        let Err(fault) = load_units(file, self) else {
+            return Ok(None);
+        };
+        Ok(Some(fault.code().ok_or("no memory")?))
+    }
+
+    fn count(&self) -> usize {
+        self.units()
+    }
 }
 
-/// Loads the units file of these parts over a rig of one unit: it answers as told, and leaves so many units.
-pub(crate) fn units_file(
+/// A wiring, with the units that its wires may join.
+#[derive(Drop)]
+pub(crate) struct Wires {
+    pub(crate) rig: FileRig,
+    pub(crate) wiring: Wiring,
+}
+
+impl Destination for Wires {
+    const ONE: &'static [u8] = b"WIRES,1\nW,used,7,used,7\n";
+
+    fn load(&mut self, file: &[u8]) -> Result<Told, Fail> {
+        let answer = load_wires(file, &self.rig, &mut self.wiring);
+        Ok(answer.err().map(Code::from))
+    }
+
+    // How many of the 16 times 8 inputs have a source.
+    fn count(&self) -> usize {
+        let wired = |unit| {
+            (0..8)
+                .filter(|port| self.wiring.source(Port { unit, port: *port }).is_some())
+                .count()
+        };
+        (0..16).fold(0, |n: usize, unit| n.saturating_add(wired(unit)))
+    }
+}
+
+/// Loads the file of these parts over one unit or wire: its refusal, and how many units or wires there are then.
+pub(crate) fn loaded<D: Destination>(
+    heap: Global,
+    into: &mut D,
+    parts: &[&[u8]],
+) -> Result<(Told, usize), Fail> {
+    let _ = into.load(D::ONE)?;
+    if into.count() != 1 {
+        return Err(Fail::new("the file of one is not loaded"));
+    }
+    let file = joined(heap, parts)?;
+    let told = into.load(&file)?;
+    Ok((told, into.count()))
+}
+
+/// Loads a line that cannot be read after each beginning of a file, and with a fault that comes first: no line feed,
+/// a wrong letter, a field too many.
+pub(crate) fn check_bad_line<D: Destination>(
     rt: &impl Abort,
     heap: Global,
-    rig: &mut FileRig,
-    row: impl Copy + Debug + PartialEq,
-    parts: &[&[u8]],
-    told: Told,
-    units: usize,
+    into: &mut D,
+    bad: &BadLine,
+    before: &[Beginning],
+    after: &[&'static [u8]],
+    letter: &'static [u8],
 ) -> Result<(), Fail> {
-    let file = joined(heap, parts)?;
-    assert_eq!(rt; (row, units_told(&file, rig)), (row, (1, told, units)));
+    let (line, number, field) = *bad;
+    for (before, at) in before {
+        let refused = |number, field| (refused!(number, 1, *at, field), 0);
+        for after in after {
+            let answer = loaded(heap, into, &[before, line, b"\n", after])?;
+            assert_eq!(rt; answer, refused(number, field), "{line:?}");
+        }
+        for last in [b"X", letter] {
+            let answer = loaded(heap, into, &[before, last, line])?;
+            assert_eq!(rt; answer, refused(11, 0), "{line:?}");
+        }
+        if number > 12 {
+            let answer = loaded(heap, into, &[before, line, b",0\n"])?;
+            assert_eq!(rt; answer, refused(12, 0), "{line:?}");
+        }
+    }
     Ok(())
 }
 
-/// How many of the 16 times 8 inputs have a source.
-pub(crate) fn wired(wiring: &Wiring) -> usize {
-    let mut n: usize = 0;
-    for unit in 0..16 {
-        for port in 0..8 {
-            if wiring.source(Port { unit, port }).is_some() {
-                n = n.saturating_add(1);
-            }
-        }
-    }
-    n
-}
-
-// Loads a wires file over a wiring of one wire: the wires before, the refusal, and the wires then.
-fn wires_told(bytes: &[u8], rig: &FileRig, wiring: &mut Wiring) -> (usize, Told, usize) {
-    let _ = load_wires(b"WIRES,1\nW,used,7,used,7\n", rig, wiring);
-    let before = wired(wiring);
-    let told = match load_wires(bytes, rig, wiring) {
-        Ok(()) => FINE,
-        Err(fault) => told_of(fault),
-    };
-    (before, told, wired(wiring))
-}
-
-/// Loads the wires file of these parts over a wiring of one wire: it answers as told, and leaves so many wires.
-pub(crate) fn wires_file(
+/// Loads each text that is no number in place of each of the numbers.
+pub(crate) fn check_numbers<D: Destination>(
     rt: &impl Abort,
     heap: Global,
-    rig: &FileRig,
-    wiring: &mut Wiring,
-    row: impl Copy + Debug + PartialEq,
-    parts: &[&[u8]],
-    told: Told,
-    wires: usize,
+    into: &mut D,
+    numbers: &[Number],
 ) -> Result<(), Fail> {
-    let file = joined(heap, parts)?;
-    assert_eq!(rt;
-        (row, wires_told(&file, rig, wiring)),
-        (row, (1, told, wires))
-    );
+    for text in &NOT_NUMBERS {
+        for (before, after, field) in numbers {
+            let answer = loaded(heap, into, &[before, text, after])?;
+            assert_eq!(rt; answer, (refused!(13, 1, 2, *field), 0), "{text:?}");
+        }
+    }
     Ok(())
 }
 
@@ -147,4 +202,12 @@ pub(crate) fn sixteen(heap: Global) -> FileRig {
     let mut rig = FileRig::new(heap);
     let _ = load_units(SIXTEEN, &mut rig);
     rig
+}
+
+/// No wires yet, between these 16 units.
+pub(crate) fn no_wires(heap: Global) -> Wires {
+    Wires {
+        rig: sixteen(heap),
+        wiring: Wiring::new(),
+    }
 }

@@ -1,10 +1,12 @@
 // Units files: what is refused, where and why, and what the rig holds after a load.
-use super::told::{BadLine, FINE, NOT_NUMBERS, Told, units_file};
+use super::told::{
+    BadLine, Beginning, Number, Told, check_bad_line, check_numbers, loaded, refused,
+};
 use file_rig::table::FileRig;
 use load::units::load_units;
+use refusal::Code;
 use rig::Rig;
 use rig::cause::RigFault;
-use std::alloc::Global;
 use std::process::Abort;
 use std::test::Fail;
 
@@ -89,51 +91,62 @@ const READ: [(&[u8], u32, usize); 11] = [
 
 // Files that are refused after their first line.
 const BAD_FILES: [(&[u8], Told); 22] = [
-    (b"UNITS,1,5\n\n", (11, 1, 2, 0)),
-    (b"UNITS,1,5\n\n\n", (11, 1, 2, 0)),
-    (b"UNITS,1,5\n\nK,a,1\n", (11, 1, 2, 0)),
-    (b"UNITS,1,5\nK,a,1\n\n", (11, 1, 3, 0)),
-    (b"UNITS,1,5\nK,a,1", (11, 1, 2, 0)),
-    (b"UNITS,1,5\nK", (11, 1, 2, 0)),
-    (b"UNITS,1,5\nK,a,1\n ", (11, 1, 3, 0)),
-    (b"UNITS,1,5\nK,a,1\nK,b,1", (11, 1, 3, 0)),
-    (b"UNITS,1,5\nK,a,1\r\n", (13, 1, 2, 3)),
-    (b"UNITS,1,5\r\nK,a,1\r\n", (10, 1, 1, 0)),
-    (b"UNITS,1,5\nUNITS,1,5\n", (11, 1, 2, 0)),
-    (b"UNITS,1,5\nK,Bad,1\nX\n", (14, 1, 2, 2)),
-    (b"UNITS,1,5\nX\nK,Bad,1\n", (11, 1, 2, 0)),
-    (b"UNITS,1,5\nK,a,1\nK,b\nK,a,1\nX", (12, 1, 3, 0)),
-    (b"UNITS,1,5\nK,a,1\nK,b,1\nK,c,x\n", (13, 1, 4, 3)),
-    (b"UNITS,1,5\nK,a,1\nK,b,1\nI,c,1,2,3,1\nX\n", (13, 1, 4, 0)),
-    (b"UNITS,1,5\nK,a,1\nK,a,1\n", (15, 1, 3, 2)),
-    (b"UNITS,1,5\nI,a,0,0,0,1\nK,b,1\nG,a,0,0,0\n", (15, 1, 4, 2)),
-    (b"UNITS,1,5\nK,a,1\nK,b,1\nK,b,x\nK,a,1\n", (15, 1, 4, 2)),
-    (b"UNITS,1,0\nX\n", (10, 1, 1, 0)),
-    (b"WIRES,1\nW,old,0,old,0\n", (10, 1, 1, 0)),
+    (b"UNITS,1,5\n\n", refused!(11, 1, 2, 0)),
+    (b"UNITS,1,5\n\n\n", refused!(11, 1, 2, 0)),
+    (b"UNITS,1,5\n\nK,a,1\n", refused!(11, 1, 2, 0)),
+    (b"UNITS,1,5\nK,a,1\n\n", refused!(11, 1, 3, 0)),
+    (b"UNITS,1,5\nK,a,1", refused!(11, 1, 2, 0)),
+    (b"UNITS,1,5\nK", refused!(11, 1, 2, 0)),
+    (b"UNITS,1,5\nK,a,1\n ", refused!(11, 1, 3, 0)),
+    (b"UNITS,1,5\nK,a,1\nK,b,1", refused!(11, 1, 3, 0)),
+    (b"UNITS,1,5\nK,a,1\r\n", refused!(13, 1, 2, 3)),
+    (b"UNITS,1,5\r\nK,a,1\r\n", refused!(10, 1, 1, 0)),
+    (b"UNITS,1,5\nUNITS,1,5\n", refused!(11, 1, 2, 0)),
+    (b"UNITS,1,5\nK,Bad,1\nX\n", refused!(14, 1, 2, 2)),
+    (b"UNITS,1,5\nX\nK,Bad,1\n", refused!(11, 1, 2, 0)),
+    (b"UNITS,1,5\nK,a,1\nK,b\nK,a,1\nX", refused!(12, 1, 3, 0)),
+    (b"UNITS,1,5\nK,a,1\nK,b,1\nK,c,x\n", refused!(13, 1, 4, 3)),
+    (
+        b"UNITS,1,5\nK,a,1\nK,b,1\nI,c,1,2,3,1\nX\n",
+        refused!(13, 1, 4, 0),
+    ),
+    (b"UNITS,1,5\nK,a,1\nK,a,1\n", refused!(15, 1, 3, 2)),
+    (
+        b"UNITS,1,5\nI,a,0,0,0,1\nK,b,1\nG,a,0,0,0\n",
+        refused!(15, 1, 4, 2),
+    ),
+    (
+        b"UNITS,1,5\nK,a,1\nK,b,1\nK,b,x\nK,a,1\n",
+        refused!(15, 1, 4, 2),
+    ),
+    (b"UNITS,1,0\nX\n", refused!(10, 1, 1, 0)),
+    (b"WIRES,1\nW,old,0,old,0\n", refused!(10, 1, 1, 0)),
     (
         b"UNITS,1,7\nK,a,1\nK,b,1\nK,c,1\nK,d,1\nK,e,1\nK,f,1\nK,g,1\nK,h,1\nK,i,1\nK,j,1\nK,k,1\nK,l,1\nK,m,1\nK,n,1\nK,o,1\nK,p,1\nK,q,1\nX\n",
-        (16, 1, 18, 0),
+        refused!(16, 1, 18, 0),
     ),
 ];
 
 #[test]
 fn whole_units_files(rt: HostRuntime) -> Result<(), Fail> {
     let mut rig = FileRig::new(rt.alloc());
-    for (row, text) in BAD_FIRST.iter().enumerate() {
-        units_file(&rt, rt.alloc(), &mut rig, row, &[text], (10, 1, 1, 0), 0)?;
+    for text in &BAD_FIRST {
+        let answer = loaded(rt.alloc(), &mut rig, &[text])?;
+        assert_eq!(rt; answer, (refused!(10, 1, 1, 0), 0), "{text:?}");
     }
-    for (row, (text, told)) in BAD_FILES.iter().enumerate() {
-        units_file(&rt, rt.alloc(), &mut rig, row, &[text], *told, 0)?;
+    for (text, told) in &BAD_FILES {
+        let answer = loaded(rt.alloc(), &mut rig, &[text])?;
+        assert_eq!(rt; answer, (*told, 0), "{text:?}");
     }
-    for (row, (text, cap, units)) in READ.iter().enumerate() {
+    for (text, cap, units) in &READ {
         let answer = load_units(text, &mut rig);
-        assert_eq!(rt; (row, answer, rig.units()), (row, Ok(*cap), *units));
+        assert_eq!(rt; (answer, rig.units()), (Ok(*cap), *units), "{text:?}");
     }
     Ok(())
 }
 
 // Beginnings of files, each with a unit named used, and the number of the line that follows.
-const BEFORE: [(&[u8], usize); 3] = [
+const BEFORE: [Beginning; 3] = [
     (b"UNITS,1,7\nK,used,4\n", 3),
     (b"UNITS,1,7\nI,tank,2,0,20,100\nK,used,4\nG,net,1,-1,0\n", 5),
     (
@@ -148,41 +161,6 @@ const AFTER: [&[u8]; 4] = [b"", b"K,last,1\n", b"\n", b"X,Bad"];
 // The beginning of a file that leaves no room for another unit.
 const SIXTEEN: &[u8] =
     b"UNITS,1,7\nK,b,1\nK,c,1\nK,d,1\nK,e,1\nK,f,1\nK,g,1\nK,h,1\nK,i,1\nK,j,1\nK,k,1\nK,l,1\nK,m,1\nK,n,1\nK,o,1\nK,used,4\nK,q,1\n";
-
-// A line of a units file in each place, and with a fault that comes first: no line feed, a wrong letter, a field too many, no room.
-fn bad_line(
-    rt: &impl Abort,
-    heap: Global,
-    rig: &mut FileRig,
-    row: usize,
-    bad: &BadLine,
-) -> Result<(), Fail> {
-    let (line, number, field) = *bad;
-    for (before, at) in BEFORE.iter() {
-        for after in AFTER.iter() {
-            let told = (number, 1, *at, field);
-            units_file(rt, heap, rig, row, &[before, line, b"\n", after], told, 0)?;
-        }
-        for last in [b"X", b"K"].iter() {
-            let told = (11, 1, *at, 0);
-            units_file(rt, heap, rig, row, &[before, *last, line], told, 0)?;
-        }
-        if number > 12 {
-            let told = (12, 1, *at, 0);
-            units_file(rt, heap, rig, row, &[before, line, b",0\n"], told, 0)?;
-        }
-    }
-    let first = if number > 12 { 16 } else { number };
-    units_file(
-        rt,
-        heap,
-        rig,
-        row,
-        &[SIXTEEN, line, b"\n"],
-        (first, 1, 18, 0),
-        0,
-    )
-}
 
 const BAD_LINES: [BadLine; 130] = [
     // The letter, or what stands for it.
@@ -327,14 +305,18 @@ const BAD_LINES: [BadLine; 130] = [
 #[test]
 fn units_lines_refused(rt: HostRuntime) -> Result<(), Fail> {
     let mut rig = FileRig::new(rt.alloc());
-    for (row, bad) in BAD_LINES.iter().enumerate() {
-        bad_line(&rt, rt.alloc(), &mut rig, row, bad)?;
+    for bad in &BAD_LINES {
+        check_bad_line(&rt, rt.alloc(), &mut rig, bad, &BEFORE, &AFTER, b"K")?;
+        let (line, number, _) = *bad;
+        let first = if number > 12 { 16 } else { number };
+        let answer = loaded(rt.alloc(), &mut rig, &[SIXTEEN, line, b"\n"])?;
+        assert_eq!(rt; answer, (refused!(first, 1, 18, 0), 0), "{line:?}");
     }
     Ok(())
 }
 
 // Each number of a line of each kind: what stands before and after it, and its field.
-const NUMBERS: [(&[u8], &[u8], usize); 8] = [
+const NUMBERS: [Number; 8] = [
     (b"UNITS,1,7\nK,a,", b"\n", 3),
     (b"UNITS,1,7\nG,a,", b",0,0\n", 3),
     (b"UNITS,1,7\nG,a,0,", b",0\n", 4),
@@ -348,21 +330,7 @@ const NUMBERS: [(&[u8], &[u8], usize); 8] = [
 #[test]
 fn each_number_of_each_kind(rt: HostRuntime) -> Result<(), Fail> {
     let mut rig = FileRig::new(rt.alloc());
-    for (row, text) in NOT_NUMBERS.iter().enumerate() {
-        for (before, after, field) in NUMBERS.iter() {
-            let told = (13, 1, 2, *field);
-            units_file(
-                &rt,
-                rt.alloc(),
-                &mut rig,
-                row,
-                &[before, text, after],
-                told,
-                0,
-            )?;
-        }
-    }
-    Ok(())
+    check_numbers(&rt, rt.alloc(), &mut rig, &NUMBERS)
 }
 
 // A unit as it was loaded: its name, its inputs, its output, its output with 1 and 2 at its inputs, and its longest step.
@@ -442,28 +410,19 @@ fn stepped(rig: &mut FileRig, at: usize, h: u32) -> Result<(u32, bool), RigFault
 }
 
 fn is_named(rig: &FileRig, at: usize, name: &[u8]) -> bool {
-    match rig.name(at) {
-        Some(found) => found.is(name) && rig.find(name) == Some(at),
-        None => false,
-    }
+    rig.name(at).is_some_and(|found| found.is(name)) && rig.find(name) == Some(at)
 }
 
 // The unit after so many others is as its line says.
-fn unit_is(
-    rt: &impl Abort,
-    rig: &mut FileRig,
-    row: usize,
-    at: usize,
-    unit: &Unit,
-) -> Result<(), Fail> {
+fn check_unit(rt: &impl Abort, rig: &mut FileRig, at: usize, unit: &Unit) -> Result<(), Fail> {
     let (name, inputs, out, fed, longest) = *unit;
-    assert_eq!(rt; (row, is_named(rig, at, name)), (row, true));
-    assert_eq!(rt; (row, stepped(rig, at, longest)?), (row, (longest, false)));
-    assert_eq!(rt; (row, shape(rig, at)?), (row, (inputs, 1, out, fed)));
+    assert!(rt; is_named(rig, at, name), "{name:?}");
+    assert_eq!(rt; stepped(rig, at, longest)?, (longest, false), "{name:?}");
+    assert_eq!(rt; shape(rig, at)?, (inputs, 1, out, fed), "{name:?}");
     if inputs == 1 && longest < 1_000_000 {
         rig.put(at, 0, 0)?;
         let over = stepped(rig, at, longest.saturating_add(1))?;
-        assert_eq!(rt; (row, over), (row, (longest, true)));
+        assert_eq!(rt; over, (longest, true), "{name:?}");
     }
     Ok(())
 }
@@ -471,27 +430,14 @@ fn unit_is(
 #[test]
 fn units_as_their_lines_say(rt: HostRuntime) -> Result<(), Fail> {
     let mut rig = FileRig::new(rt.alloc());
-    for (row, (line, unit)) in UNITS.iter().enumerate() {
-        units_file(
-            &rt,
-            rt.alloc(),
-            &mut rig,
-            row,
-            &[b"UNITS,1,3\n", line],
-            FINE,
-            1,
-        )?;
-        unit_is(&rt, &mut rig, row, 0, unit)?;
-        units_file(
-            &rt,
-            rt.alloc(),
-            &mut rig,
-            row,
-            &[b"UNITS,1,4\nK,used,4\nG,u,1,1,1\nI,us,0,0,9,9\n", line],
-            FINE,
-            4,
-        )?;
-        unit_is(&rt, &mut rig, row, 3, unit)?;
+    for (line, unit) in &UNITS {
+        let answer = loaded(rt.alloc(), &mut rig, &[b"UNITS,1,3\n", line])?;
+        assert_eq!(rt; answer, (None, 1), "{line:?}");
+        check_unit(&rt, &mut rig, 0, unit)?;
+        let before = b"UNITS,1,4\nK,used,4\nG,u,1,1,1\nI,us,0,0,9,9\n";
+        let answer = loaded(rt.alloc(), &mut rig, &[before, line])?;
+        assert_eq!(rt; answer, (None, 4), "{line:?}");
+        check_unit(&rt, &mut rig, 3, unit)?;
         assert!(rt; is_named(&rig, 0, b"used") && is_named(&rig, 2, b"us"));
         assert_eq!(rt; rig.find(b"old"), None);
     }

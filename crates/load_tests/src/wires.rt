@@ -1,11 +1,12 @@
 // Wires files: what is refused, where and why, and what the wiring holds after a load.
-use super::told::{BadLine, FINE, NOT_NUMBERS, Told, joined, sixteen, wires_file};
-use file_rig::table::FileRig;
+use super::told::{
+    BadLine, Beginning, Number, Told, check_bad_line, check_numbers, joined, loaded, no_wires,
+    refused,
+};
+use refusal::Code;
 use std::alloc::{AllocError, Global};
-use std::process::Abort;
 use std::test::Fail;
 use wiring::port::Port;
-use wiring::table::Wiring;
 
 // Files that are refused by their first line.
 const BAD_FIRST: [&[u8]; 24] = [
@@ -37,133 +38,71 @@ const BAD_FIRST: [&[u8]; 24] = [
 
 // Files after their first line: the refusal, and how many wires there are then.
 const FILES: [(&[u8], Told, usize); 21] = [
-    (b"WIRES,1\n", (0, 0, 0, 0), 0),
-    (b"WIRES,1\nW,a,0,b,0\n", (0, 0, 0, 0), 1),
-    (b"WIRES,1\nW,used,7,used,7\n", (0, 0, 0, 0), 1),
-    (
-        b"WIRES,1\nW,a,0,b,0\nW,a,0,b,7\nW,a,0,a,0\n",
-        (0, 0, 0, 0),
-        3,
-    ),
-    (b"WIRES,1\n\n", (11, 1, 2, 0), 0),
-    (b"WIRES,1\n\nW,a,0,b,0\n", (11, 1, 2, 0), 0),
-    (b"WIRES,1\nW,a,0,b,0\n\n", (11, 1, 3, 0), 0),
-    (b"WIRES,1\nW,a,0,b,0", (11, 1, 2, 0), 0),
-    (b"WIRES,1\nW", (11, 1, 2, 0), 0),
-    (b"WIRES,1\nW,a,0,b,0\n ", (11, 1, 3, 0), 0),
-    (b"WIRES,1\nW,a,0,b,0\nW,a,0,b,1", (11, 1, 3, 0), 0),
-    (b"WIRES,1\nW,a,0,b,0\r\n", (13, 1, 2, 5), 0),
-    (b"WIRES,1\nWIRES,1\n", (11, 1, 2, 0), 0),
-    (b"WIRES,1\nW,Bad,0,b,0\nX\n", (14, 1, 2, 2), 0),
-    (b"WIRES,1\nX\nW,Bad,0,b,0\n", (11, 1, 2, 0), 0),
+    (b"WIRES,1\n", None, 0),
+    (b"WIRES,1\nW,a,0,b,0\n", None, 1),
+    (b"WIRES,1\nW,used,7,used,7\n", None, 1),
+    (b"WIRES,1\nW,a,0,b,0\nW,a,0,b,7\nW,a,0,a,0\n", None, 3),
+    (b"WIRES,1\n\n", refused!(11, 1, 2, 0), 0),
+    (b"WIRES,1\n\nW,a,0,b,0\n", refused!(11, 1, 2, 0), 0),
+    (b"WIRES,1\nW,a,0,b,0\n\n", refused!(11, 1, 3, 0), 0),
+    (b"WIRES,1\nW,a,0,b,0", refused!(11, 1, 2, 0), 0),
+    (b"WIRES,1\nW", refused!(11, 1, 2, 0), 0),
+    (b"WIRES,1\nW,a,0,b,0\n ", refused!(11, 1, 3, 0), 0),
+    (b"WIRES,1\nW,a,0,b,0\nW,a,0,b,1", refused!(11, 1, 3, 0), 0),
+    (b"WIRES,1\nW,a,0,b,0\r\n", refused!(13, 1, 2, 5), 0),
+    (b"WIRES,1\nWIRES,1\n", refused!(11, 1, 2, 0), 0),
+    (b"WIRES,1\nW,Bad,0,b,0\nX\n", refused!(14, 1, 2, 2), 0),
+    (b"WIRES,1\nX\nW,Bad,0,b,0\n", refused!(11, 1, 2, 0), 0),
     (
         b"WIRES,1\nW,a,0,b,0\nW,a,0,b\nW,a,0,b,0\nX",
-        (12, 1, 3, 0),
+        refused!(12, 1, 3, 0),
         0,
     ),
     (
         b"WIRES,1\nW,a,0,b,0\nW,a,0,b,1\nW,nobody,0,b,2\n",
-        (17, 1, 4, 2),
+        refused!(17, 1, 4, 2),
         0,
     ),
-    (b"WIRES,1\nW,a,0,b,0\nW,a,0,b,0\n", (19, 1, 3, 0), 0),
+    (b"WIRES,1\nW,a,0,b,0\nW,a,0,b,0\n", refused!(19, 1, 3, 0), 0),
     (
         b"WIRES,1\nW,a,0,b,0\nW,c,3,d,0\nW,used,7,b,0\nX\n",
-        (19, 1, 4, 0),
+        refused!(19, 1, 4, 0),
         0,
     ),
     (
         b"WIRES,1\nW,a,0,b,0\nW,a,0,b,1\nW,b,0,b,1\nW,a,0,b,0\n",
-        (19, 1, 4, 0),
+        refused!(19, 1, 4, 0),
         0,
     ),
-    (b"WIRES,1\nW,a,0,b,0\nW,a,0,b,0,\n", (12, 1, 3, 0), 0),
+    (
+        b"WIRES,1\nW,a,0,b,0\nW,a,0,b,0,\n",
+        refused!(12, 1, 3, 0),
+        0,
+    ),
 ];
 
 #[test]
 fn whole_wires_files(rt: HostRuntime) -> Result<(), Fail> {
-    let rig = sixteen(rt.alloc());
-    let mut wiring = Wiring::new();
-    for (row, text) in BAD_FIRST.iter().enumerate() {
-        wires_file(
-            &rt,
-            rt.alloc(),
-            &rig,
-            &mut wiring,
-            row,
-            &[text],
-            (10, 1, 1, 0),
-            0,
-        )?;
+    let mut wires = no_wires(rt.alloc());
+    for text in &BAD_FIRST {
+        let answer = loaded(rt.alloc(), &mut wires, &[text])?;
+        assert_eq!(rt; answer, (refused!(10, 1, 1, 0), 0), "{text:?}");
     }
-    for (row, (text, told, wires)) in FILES.iter().enumerate() {
-        wires_file(
-            &rt,
-            rt.alloc(),
-            &rig,
-            &mut wiring,
-            row,
-            &[text],
-            *told,
-            *wires,
-        )?;
+    for (text, told, count) in &FILES {
+        let answer = loaded(rt.alloc(), &mut wires, &[text])?;
+        assert_eq!(rt; answer, (*told, *count), "{text:?}");
     }
     Ok(())
 }
 
 // Beginnings of files, each with a wire to input 0 of the unit named used, and the number of the line that follows.
-const BEFORE: [(&[u8], usize); 2] = [
+const BEFORE: [Beginning; 2] = [
     (b"WIRES,1\nW,tank,0,used,0\n", 3),
     (b"WIRES,1\nW,a,0,b,7\nW,tank,0,used,0\nW,a,1,b,6\n", 5),
 ];
 
 // What may follow a line that cannot be read.
 const AFTER: [&[u8]; 4] = [b"", b"W,z,0,z,0\n", b"\n", b"X,Bad"];
-
-// A line of a wires file in each place, and with a fault that comes first: no line feed, a wrong letter, a field too many.
-fn bad_line(
-    rt: &impl Abort,
-    heap: Global,
-    rig: &FileRig,
-    wiring: &mut Wiring,
-    row: usize,
-    bad: &BadLine,
-) -> Result<(), Fail> {
-    let (line, number, field) = *bad;
-    for (before, at) in BEFORE.iter() {
-        for after in AFTER.iter() {
-            let told = (number, 1, *at, field);
-            wires_file(
-                rt,
-                heap,
-                rig,
-                wiring,
-                row,
-                &[before, line, b"\n", after],
-                told,
-                0,
-            )?;
-        }
-        for last in [b"X", b"W"].iter() {
-            let told = (11, 1, *at, 0);
-            wires_file(rt, heap, rig, wiring, row, &[before, *last, line], told, 0)?;
-        }
-        if number > 12 {
-            let told = (12, 1, *at, 0);
-            wires_file(
-                rt,
-                heap,
-                rig,
-                wiring,
-                row,
-                &[before, line, b",0\n"],
-                told,
-                0,
-            )?;
-        }
-    }
-    Ok(())
-}
 
 const BAD_LINES: [BadLine; 81] = [
     // The letter, or what stands for it.
@@ -258,40 +197,23 @@ const BAD_LINES: [BadLine; 81] = [
 
 #[test]
 fn wires_lines_refused(rt: HostRuntime) -> Result<(), Fail> {
-    let rig = sixteen(rt.alloc());
-    let mut wiring = Wiring::new();
-    for (row, bad) in BAD_LINES.iter().enumerate() {
-        bad_line(&rt, rt.alloc(), &rig, &mut wiring, row, bad)?;
+    let mut wires = no_wires(rt.alloc());
+    for bad in &BAD_LINES {
+        check_bad_line(&rt, rt.alloc(), &mut wires, bad, &BEFORE, &AFTER, b"W")?;
     }
     Ok(())
 }
 
 // Each number of a line: what stands before and after it, and its field.
-const NUMBERS: [(&[u8], &[u8], usize); 2] = [
+const NUMBERS: [Number; 2] = [
     (b"WIRES,1\nW,a,", b",b,0\n", 3),
     (b"WIRES,1\nW,a,0,b,", b"\n", 5),
 ];
 
 #[test]
 fn each_number_of_a_wire(rt: HostRuntime) -> Result<(), Fail> {
-    let rig = sixteen(rt.alloc());
-    let mut wiring = Wiring::new();
-    for (row, text) in NOT_NUMBERS.iter().enumerate() {
-        for (before, after, field) in NUMBERS.iter() {
-            let told = (13, 1, 2, *field);
-            wires_file(
-                &rt,
-                rt.alloc(),
-                &rig,
-                &mut wiring,
-                row,
-                &[before, text, after],
-                told,
-                0,
-            )?;
-        }
-    }
-    Ok(())
+    let mut wires = no_wires(rt.alloc());
+    check_numbers(&rt, rt.alloc(), &mut wires, &NUMBERS)
 }
 
 // The wires of a file: unit and output, then unit and input.
@@ -311,19 +233,10 @@ const WIRES_FILE: &[u8] =
 
 #[test]
 fn wires_as_their_lines_say(rt: HostRuntime) -> Result<(), Fail> {
-    let rig = sixteen(rt.alloc());
-    let mut wiring = Wiring::new();
-    wires_file(
-        &rt,
-        rt.alloc(),
-        &rig,
-        &mut wiring,
-        0,
-        &[WIRES_FILE],
-        FINE,
-        8,
-    )?;
-    for (row, (from, output, unit, input)) in WIRES.iter().enumerate() {
+    let mut wires = no_wires(rt.alloc());
+    let answer = loaded(rt.alloc(), &mut wires, &[WIRES_FILE])?;
+    assert_eq!(rt; answer, (None, 8));
+    for (from, output, unit, input) in &WIRES {
         let to = Port {
             unit: *unit,
             port: *input,
@@ -332,7 +245,7 @@ fn wires_as_their_lines_say(rt: HostRuntime) -> Result<(), Fail> {
             unit: *from,
             port: *output,
         };
-        assert_eq!(rt; (row, wiring.source(to)), (row, Some(source)));
+        assert_eq!(rt; wires.wiring.source(to), Some(source), "{to:?}");
     }
     Ok(())
 }
@@ -371,8 +284,8 @@ const NAMES: [&[u8]; 16] = [
 // A wires file with a wire to every input of every unit.
 fn all_wired(heap: Global) -> Result<Vec<u8>, AllocError> {
     let mut text = joined(heap, &[b"WIRES,1\n"])?;
-    for name in NAMES.iter() {
-        for (before, after) in TO_EACH.iter() {
+    for name in &NAMES {
+        for (before, after) in &TO_EACH {
             let line = joined(heap, &[before, name, after])?;
             text.extend_from_slice(&line)?;
         }
@@ -382,26 +295,19 @@ fn all_wired(heap: Global) -> Result<Vec<u8>, AllocError> {
 
 #[test]
 fn every_input_wired(rt: HostRuntime) -> Result<(), Fail> {
-    let rig = sixteen(rt.alloc());
-    let mut wiring = Wiring::new();
+    let mut wires = no_wires(rt.alloc());
     let all = all_wired(rt.alloc())?;
-    wires_file(&rt, rt.alloc(), &rig, &mut wiring, 0, &[&all], FINE, 128)?;
+    let answer = loaded(rt.alloc(), &mut wires, &[&all])?;
+    assert_eq!(rt; answer, (None, 128));
     for unit in 0..16 {
         for port in 0..8 {
             assert_eq!(rt;
-                wiring.source(Port { unit, port }),
+                wires.wiring.source(Port { unit, port }),
                 Some(Port { unit: 1, port })
             );
         }
     }
-    wires_file(
-        &rt,
-        rt.alloc(),
-        &rig,
-        &mut wiring,
-        1,
-        &[&all, b"W,a,0,z,7\n"],
-        (19, 1, 130, 0),
-        0,
-    )
+    let answer = loaded(rt.alloc(), &mut wires, &[&all, b"W,a,0,z,7\n"])?;
+    assert_eq!(rt; answer, (refused!(19, 1, 130, 0), 0));
+    Ok(())
 }

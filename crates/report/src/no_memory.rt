@@ -9,7 +9,6 @@ pub struct NoMemory<'a> {
 
 impl fmt::Display for NoMemory<'_> {
     fn fmt<W: fmt::Write>(&self, f: &mut fmt::Formatter<W>) -> fmt::Result {
-        let path = self.path;
-        write!(f, "load refused: no memory for the units of {path}")
+        write!(f, "load refused: no memory for the units of {}", self.path)
     }
 }

@@ -1,7 +1,7 @@
 // A file that is refused, in words.
 use lines::fault::FileFault;
+use refusal::Code;
 use std::fmt;
-use words::Words;
 
 mod letter;
 mod words;
@@ -25,19 +25,12 @@ pub struct RefusedFile<'a> {
 /// As `load refused 15 1 3 2: units.csv:3: field 2: name 'winch' is used already`.
 impl fmt::Display for RefusedFile<'_> {
     fn fmt<W: fmt::Write>(&self, f: &mut fmt::Formatter<W>) -> fmt::Result {
-        let code = self.fault.code();
-        let path = self.path;
-        let line = self.fault.line;
-        write!(f, "load refused {code}: {path}:{line}: ")?;
-        if code.b > 0 {
-            let field = code.b;
+        let FileFault { line, fault } = self.fault;
+        let code = Code::from(self.fault);
+        write!(f, "load refused {code}: {}:{line}: ", self.path)?;
+        if let Some(field) = fault.field() {
             write!(f, "field {field}: ")?;
         }
-        let words = Words {
-            file: self.file,
-            bytes: self.bytes,
-            fault: self.fault,
-        };
-        write!(f, "{words}")
+        self.put_words(f)
     }
 }

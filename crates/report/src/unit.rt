@@ -1,5 +1,5 @@
 // A unit in words.
-use crate::quoted::Bare;
+use crate::quoted::Excerpt;
 use kinds::design::Design;
 use names::name::Name;
 use std::fmt;
@@ -15,20 +15,14 @@ pub struct UnitText {
 /// As `unit 2 = integrator tank: x 5, lo 0, hi 20, m 100`.
 impl fmt::Display for UnitText {
     fn fmt<W: fmt::Write>(&self, f: &mut fmt::Formatter<W>) -> fmt::Result {
-        let number = self.number;
-        let name = Bare {
-            bytes: self.name.text(),
-        };
+        let name = Excerpt::bare(self.name.text());
+        write!(f, "unit {} = ", self.number)?;
         match self.design {
-            Design::Integrator { x, lo, hi, m } => write!(
-                f,
-                "unit {number} = integrator {name}: x {x}, lo {lo}, hi {hi}, m {m}"
-            ),
-            Design::Gain { a, b, c } => write!(
-                f,
-                "unit {number} = gain {name}: a {a}, b {b}, c {c}"
-            ),
-            Design::Constant { v } => write!(f, "unit {number} = constant {name}: v {v}"),
+            Design::Integrator { x, lo, hi, m } => {
+                write!(f, "integrator {name}: x {x}, lo {lo}, hi {hi}, m {m}")
+            }
+            Design::Gain { a, b, c } => write!(f, "gain {name}: a {a}, b {b}, c {c}"),
+            Design::Constant { v } => write!(f, "constant {name}: v {v}"),
         }
     }
 }

@@ -1,28 +1,33 @@
 // A wire in words.
-use crate::quoted::Bare;
+use crate::quoted::Excerpt;
 use names::name::Name;
 use std::fmt;
 
-/// A wire by the names of its units and its ports.
+/// An end of a wire by the name of its unit and its port.
+#[derive(Clone, Copy)]
+pub struct EndText {
+    pub name: Name,
+    pub port: usize,
+}
+
+/// As `draw.0`.
+impl fmt::Display for EndText {
+    fn fmt<W: fmt::Write>(&self, f: &mut fmt::Formatter<W>) -> fmt::Result {
+        let name = Excerpt::bare(self.name.text());
+        write!(f, "{name}.{}", self.port)
+    }
+}
+
+/// A wire by its ends.
 #[derive(Clone, Copy)]
 pub struct WireText {
-    pub from: Name,
-    pub output: usize,
-    pub to: Name,
-    pub input: usize,
+    pub from: EndText,
+    pub to: EndText,
 }
 
 /// As `wire draw.0 -> net.1`.
 impl fmt::Display for WireText {
     fn fmt<W: fmt::Write>(&self, f: &mut fmt::Formatter<W>) -> fmt::Result {
-        let from = Bare {
-            bytes: self.from.text(),
-        };
-        let output = self.output;
-        let to = Bare {
-            bytes: self.to.text(),
-        };
-        let input = self.input;
-        write!(f, "wire {from}.{output} -> {to}.{input}")
+        write!(f, "wire {} -> {}", self.from, self.to)
     }
 }

@@ -13,8 +13,9 @@ mod tests {
     use report::no_memory::NoMemory;
     use report::refused::{FileKind, RefusedFile};
     use report::unit::UnitText;
-    use report::wire::WireText;
+    use report::wire::{EndText, WireText};
     use std::alloc::Global;
+    use std::fmt;
     use std::process::Abort;
     use std::test::Fail;
     use wiring::table::Wiring;
@@ -37,13 +38,23 @@ mod tests {
         let mut rig = FileRig::new(heap);
         load_units(BOAT, &mut rig)?;
         let mut wiring = Wiring::new();
-        match load_wires(bytes, &rig, &mut wiring) {
-            Ok(()) => Err(Fail::new("the wires file is not refused")),
-            Err(fault) => Ok(fault),
-        }
+        let refused = load_wires(bytes, &rig, &mut wiring).err();
+        Ok(refused.ok_or("the wires file is not refused")?)
     }
 
-    // A file that is refused, and what is printed of it after its path.
+    // What is printed of a value.
+    fn check_text<T: fmt::Display>(
+        rt: &impl Abort,
+        heap: Global,
+        value: &T,
+        expected: &str,
+    ) -> Result<(), Fail> {
+        let text = format!(in heap; "{value}")?;
+        assert_eq!(rt; text.as_str(), expected);
+        Ok(())
+    }
+
+    // A file that is refused, and what is printed of it.
     type Case = (FileKind, &'static [u8], &'static str);
 
     // Loads each file, and compares what is printed of it.
@@ -59,8 +70,7 @@ mod tests {
                 bytes: *bytes,
                 fault,
             };
-            let text = format!(in heap; "{refused}")?;
-            assert_eq!(rt; text.as_str(), *expected);
+            check_text(rt, heap, &refused, *expected)?;
         }
         Ok(())
     }
@@ -279,22 +289,7 @@ mod tests {
 
     // The name with this text.
     fn name(text: &[u8]) -> Result<Name, Fail> {
-        match Name::new(text) {
-            Some(name) => Ok(name),
-            None => Err(Fail::new("not a name")),
-        }
-    }
-
-    // What is printed of a unit.
-    fn check_unit(
-        rt: &impl Abort,
-        heap: Global,
-        unit: UnitText,
-        expected: &str,
-    ) -> Result<(), Fail> {
-        let text = format!(in heap; "{unit}")?;
-        assert_eq!(rt; text.as_str(), expected);
-        Ok(())
+        Ok(Name::new(text).ok_or("not a name")?)
     }
 
     // Units of each kind, a wire, and want of memory.
@@ -311,10 +306,10 @@ mod tests {
                 m: 100,
             },
         };
-        check_unit(
+        check_text(
             &rt,
             heap,
-            unit,
+            &unit,
             "unit 2 = integrator tank: x 5, lo 0, hi 20, m 100",
         )?;
         let unit = UnitText {
@@ -322,26 +317,29 @@ mod tests {
             name: name(b"net")?,
             design: Design::Gain { a: 1, b: -1, c: 0 },
         };
-        check_unit(&rt, heap, unit, "unit 1 = gain net: a 1, b -1, c 0")?;
+        check_text(&rt, heap, &unit, "unit 1 = gain net: a 1, b -1, c 0")?;
         let unit = UnitText {
             number: 0,
             name: name(b"draw")?,
             design: Design::Constant { v: 1 },
         };
-        check_unit(&rt, heap, unit, "unit 0 = constant draw: v 1")?;
+        check_text(&rt, heap, &unit, "unit 0 = constant draw: v 1")?;
         let wire = WireText {
-            from: name(b"draw")?,
-            output: 0,
-            to: name(b"net")?,
-            input: 1,
+            from: EndText {
+                name: name(b"draw")?,
+                port: 0,
+            },
+            to: EndText {
+                name: name(b"net")?,
+                port: 1,
+            },
         };
-        let text = format!(in heap; "{wire}")?;
-        assert_eq!(rt; text.as_str(), "wire draw.0 -> net.1");
-        let text = format!(in heap; "{}", NoMemory { path: "boat.csv" })?;
-        assert_eq!(rt;
-            text.as_str(),
-            "load refused: no memory for the units of boat.csv"
-        );
-        Ok(())
+        check_text(&rt, heap, &wire, "wire draw.0 -> net.1")?;
+        check_text(
+            &rt,
+            heap,
+            &NoMemory { path: "boat.csv" },
+            "load refused: no memory for the units of boat.csv",
+        )
     }
 }

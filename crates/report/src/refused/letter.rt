@@ -10,19 +10,17 @@ pub(super) enum Letter {
     W,
 }
 
-/// The letter of a line of this file that begins with one.
-pub(super) fn letter_of(file: FileKind, line: &[u8]) -> Letter {
-    match file {
-        FileKind::Wires => Letter::W,
-        FileKind::Units => match line {
-            [b'I', ..] => Letter::I,
-            [b'G', ..] => Letter::G,
-            _ => Letter::K,
-        },
-    }
-}
-
 impl Letter {
+    /// The letter of a line of this file that begins with one.
+    pub(super) fn of(file: FileKind, line: &[u8]) -> Letter {
+        match (file, line) {
+            (FileKind::Wires, _) => Letter::W,
+            (FileKind::Units, [b'I', ..]) => Letter::I,
+            (FileKind::Units, [b'G', ..]) => Letter::G,
+            (FileKind::Units, _) => Letter::K,
+        }
+    }
+
     /// What such a line is called, with its article, and how many fields it has.
     pub(super) fn form(self) -> (&'static str, usize) {
         match self {
