@@ -38,9 +38,9 @@ pub(crate) fn number_within(text: &[u8], low: i32, high: i32) -> Option<i32>
     ensures value { result ≡ within low high (number_of text.now) }
     ensures range { IfSome result (λ n. (low ≤ℤ n) × (n ≤ℤ high)) }
 {
-    // No `filter` and no `contains`: with either the value was not proved.
+    // No `filter`: over its closure the value was not proved.
     let n = number(text)?;
-    if n < low || n > high {
+    if !(low..=high).contains(&n) {
         return None;
     }
     Some(n)

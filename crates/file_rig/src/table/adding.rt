@@ -51,13 +51,13 @@ impl FileRig {
     pub fn design(&self, unit: usize) -> Result<Design, RigFault>
         ensures { Described (units_of self.now) unit result }
     {
-        // `let .. else`, twice: over `ok_or` and `?` the last goal stayed open.
-        let Some(record) = self.table.as_slice().get(unit) else {
-            return Err(RigFault::new(Cause::NoSuch, unit, Target::Whole));
-        };
-        let Some(body) = record.contents() else {
-            return Err(RigFault::new(Cause::Loose, unit, Target::Whole));
-        };
+        let units = self.table.as_slice();
+        let record = units
+            .get(unit)
+            .ok_or(RigFault::new(Cause::NoSuch, unit, Target::Whole))?;
+        let body = record
+            .contents()
+            .ok_or(RigFault::new(Cause::Loose, unit, Target::Whole))?;
         Ok(body.design())
     }
 
