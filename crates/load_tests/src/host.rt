@@ -1,5 +1,5 @@
 // Wires that a host adds by numbers.
-use super::told::{Told, refused};
+use super::told::{Told, port, refused};
 use refusal::Code;
 use std::process::Abort;
 use std::test::Fail;
@@ -8,43 +8,59 @@ use wiring::table::Wiring;
 
 const FAR: usize = usize::MAX;
 
-// Unit and output, unit and input, and what the call answers after the rows before it.
-const ADDED: [(usize, usize, usize, usize, Told); 31] = [
-    (1, 2, 3, 4, None),
-    (0, 0, 0, 0, None),
-    (15, 7, 15, 7, None),
-    (3, 4, 3, 3, None),
+// A wire from an output to an input, and what the call answers after the rows before it.
+struct Added {
+    from: Port,
+    to: Port,
+    told: Told,
+}
+
+macro_rules! added {
+    ($from:expr, $to:expr => $told:expr) => {
+        Added {
+            from: $from,
+            to: $to,
+            told: $told,
+        }
+    };
+}
+
+const ADDED: [Added; 31] = [
+    added!(port!(1, 2), port!(3, 4) => None),
+    added!(port!(0, 0), port!(0, 0) => None),
+    added!(port!(15, 7), port!(15, 7) => None),
+    added!(port!(3, 4), port!(3, 3) => None),
     // An end out of range.
-    (16, 0, 2, 1, refused!(18, 2, 2, 1)),
-    (0, 8, 2, 1, refused!(18, 2, 2, 1)),
-    (16, 8, 2, 1, refused!(18, 2, 2, 1)),
-    (0, 0, 16, 1, refused!(18, 2, 16, 1)),
-    (0, 0, 2, 8, refused!(18, 2, 2, 8)),
-    (0, 0, 16, 8, refused!(18, 2, 16, 8)),
-    (16, 8, 16, 8, refused!(18, 2, 16, 8)),
-    (17, 0, 9, 7, refused!(18, 2, 9, 7)),
-    (0, 9, 9, 7, refused!(18, 2, 9, 7)),
-    (FAR, 0, 2, 1, refused!(18, 2, 2, 1)),
-    (0, FAR, 2, 1, refused!(18, 2, 2, 1)),
-    (0, 0, FAR, 1, refused!(18, 2, FAR, 1)),
-    (0, 0, 1, FAR, refused!(18, 2, 1, FAR)),
-    (FAR, FAR, FAR, FAR, refused!(18, 2, FAR, FAR)),
+    added!(port!(16, 0), port!(2, 1) => refused!(18, 2, 2, 1)),
+    added!(port!(0, 8), port!(2, 1) => refused!(18, 2, 2, 1)),
+    added!(port!(16, 8), port!(2, 1) => refused!(18, 2, 2, 1)),
+    added!(port!(0, 0), port!(16, 1) => refused!(18, 2, 16, 1)),
+    added!(port!(0, 0), port!(2, 8) => refused!(18, 2, 2, 8)),
+    added!(port!(0, 0), port!(16, 8) => refused!(18, 2, 16, 8)),
+    added!(port!(16, 8), port!(16, 8) => refused!(18, 2, 16, 8)),
+    added!(port!(17, 0), port!(9, 7) => refused!(18, 2, 9, 7)),
+    added!(port!(0, 9), port!(9, 7) => refused!(18, 2, 9, 7)),
+    added!(port!(FAR, 0), port!(2, 1) => refused!(18, 2, 2, 1)),
+    added!(port!(0, FAR), port!(2, 1) => refused!(18, 2, 2, 1)),
+    added!(port!(0, 0), port!(FAR, 1) => refused!(18, 2, FAR, 1)),
+    added!(port!(0, 0), port!(1, FAR) => refused!(18, 2, 1, FAR)),
+    added!(port!(FAR, FAR), port!(FAR, FAR) => refused!(18, 2, FAR, FAR)),
     // An input that is wired.
-    (1, 2, 3, 4, refused!(19, 2, 3, 4)),
-    (5, 5, 3, 4, refused!(19, 2, 3, 4)),
-    (3, 4, 3, 4, refused!(19, 2, 3, 4)),
-    (0, 1, 0, 0, refused!(19, 2, 0, 0)),
-    (15, 7, 15, 7, refused!(19, 2, 15, 7)),
+    added!(port!(1, 2), port!(3, 4) => refused!(19, 2, 3, 4)),
+    added!(port!(5, 5), port!(3, 4) => refused!(19, 2, 3, 4)),
+    added!(port!(3, 4), port!(3, 4) => refused!(19, 2, 3, 4)),
+    added!(port!(0, 1), port!(0, 0) => refused!(19, 2, 0, 0)),
+    added!(port!(15, 7), port!(15, 7) => refused!(19, 2, 15, 7)),
     // Both.
-    (16, 0, 3, 4, refused!(18, 2, 3, 4)),
-    (0, 8, 3, 4, refused!(18, 2, 3, 4)),
-    (FAR, 0, 15, 7, refused!(18, 2, 15, 7)),
+    added!(port!(16, 0), port!(3, 4) => refused!(18, 2, 3, 4)),
+    added!(port!(0, 8), port!(3, 4) => refused!(18, 2, 3, 4)),
+    added!(port!(FAR, 0), port!(15, 7) => refused!(18, 2, 15, 7)),
     // Inputs that were refused before, and neighbours of wired ones.
-    (0, 0, 2, 1, None),
-    (15, 7, 9, 7, None),
-    (1, 2, 3, 5, None),
-    (1, 2, 4, 4, None),
-    (1, 2, 2, 1, refused!(19, 2, 2, 1)),
+    added!(port!(0, 0), port!(2, 1) => None),
+    added!(port!(15, 7), port!(9, 7) => None),
+    added!(port!(1, 2), port!(3, 5) => None),
+    added!(port!(1, 2), port!(4, 4) => None),
+    added!(port!(1, 2), port!(2, 1) => refused!(19, 2, 2, 1)),
 ];
 
 // Every input has the source that it had, but one that was wired since.
@@ -75,27 +91,14 @@ fn differ_at_most_at(
 #[test]
 fn wires_by_numbers(rt: HostRuntime) -> Result<(), Fail> {
     let mut wiring = Wiring::new();
-    for (row, (unit, output, target, input, answer)) in ADDED.iter().enumerate() {
+    for (row, added) in ADDED.iter().enumerate() {
+        let Added { from, to, told } = *added;
         let before = wiring;
-        let from = Port {
-            unit: *unit,
-            port: *output,
-        };
-        let to = Port {
-            unit: *target,
-            port: *input,
-        };
-        let told = wiring.add(from, to).err().map(Code::from);
-        assert_eq!(rt; told, *answer, "row {row}");
-        let wired = answer.is_none().then_some((from, to));
+        let answer = wiring.add(from, to).err().map(Code::from);
+        assert_eq!(rt; answer, told, "row {row}");
+        let wired = told.is_none().then_some((from, to));
         differ_at_most_at(&rt, row, &before, &wiring, wired)?;
     }
-    assert_eq!(rt;
-        wiring.source(Port {
-            unit: FAR,
-            port: FAR,
-        }),
-        None
-    );
+    assert_eq!(rt; wiring.source(port!(FAR, FAR)), None);
     Ok(())
 }

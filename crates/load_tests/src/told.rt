@@ -27,8 +27,37 @@ macro_rules! refused {
 
 pub(crate) use refused;
 
+/// A port by its unit and its own number.
+macro_rules! port {
+    ($unit:expr, $port:expr) => {
+        Port {
+            unit: $unit,
+            port: $port,
+        }
+    };
+}
+
+pub(crate) use port;
+
 /// A line that cannot be read, with the number and the field of its refusal.
-pub(crate) type BadLine = (&'static [u8], usize, usize);
+pub(crate) struct BadLine {
+    pub(crate) line: &'static [u8],
+    pub(crate) number: usize,
+    pub(crate) field: usize,
+}
+
+/// A line that cannot be read, in the order of its fields.
+macro_rules! bad {
+    ($line:expr, $number:expr, $field:expr) => {
+        BadLine {
+            line: $line,
+            number: $number,
+            field: $field,
+        }
+    };
+}
+
+pub(crate) use bad;
 
 /// The beginning of a file, and the number of the line that follows.
 pub(crate) type Beginning = (&'static [u8], usize);
@@ -158,7 +187,11 @@ pub(crate) fn check_bad_line<D: Destination>(
     after: &[&'static [u8]],
     letter: &'static [u8],
 ) -> Result<(), Fail> {
-    let (line, number, field) = *bad;
+    let BadLine {
+        line,
+        number,
+        field,
+    } = *bad;
     for (before, at) in before {
         let refused = |number, field| (refused!(number, 1, *at, field), 0);
         for after in after {
