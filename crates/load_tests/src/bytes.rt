@@ -16,6 +16,7 @@ struct Places {
     told: Told,
 }
 
+// A row is written with ranges. It keeps their ends, as a constant cannot hold a range.
 macro_rules! places {
     ($first:literal..=$last:literal, $low:literal..=$high:literal => $told:expr) => {
         Places {

@@ -46,7 +46,7 @@ pub(crate) struct BadLine {
     pub(crate) field: usize,
 }
 
-/// A line that cannot be read, in the order of its fields.
+/// A bad line by its bytes, and the number and the field of its refusal.
 macro_rules! bad {
     ($line:expr, $number:expr, $field:expr) => {
         BadLine {
