@@ -77,7 +77,7 @@ impl<L: Copy, B: Behaviour + Drop> UnitCalls for Unit<L, B> {
         Ok(h.min(self.behaviour.bound(contents)))
     }
 
-    #[tactic(auto, using(crate::proofs::Keeping::saved_own))]
+    #[tactic(auto, using(crate::proofs::Keeping::place_set))]
     fn save(&mut self, place: usize) -> Result<(), Cause> {
         self.memory.save(place)
     }
@@ -86,7 +86,7 @@ impl<L: Copy, B: Behaviour + Drop> UnitCalls for Unit<L, B> {
         self.memory.restore(place)
     }
 
-    #[tactic(auto, using(crate::proofs::Keeping::freed_own))]
+    #[tactic(auto, using(crate::proofs::Keeping::place_set))]
     fn free(&mut self, place: usize) -> Result<(), Cause> {
         self.memory.free(place)
     }
