@@ -36,6 +36,7 @@ fn add_wire(wiring: &mut Wiring, rig: &FileRig, line: &WireLine<'_>) -> Result<(
 {
     let from = resolve(rig, line.source());
     let to = resolve(rig, line.target());
+    // No `map_err`: in its closure the proof does not know that both ends are in range.
     match wiring.add(from, to) {
         Ok(()) => Ok(()),
         Err(WireFault::WiredTwice(_)) => Err(LineFault::WiredTwice),
@@ -44,7 +45,7 @@ fn add_wire(wiring: &mut Wiring, rig: &FileRig, line: &WireLine<'_>) -> Result<(
 }
 
 /// Fills a wiring line by line, up to the first line that cannot be read.
-// Not one function with `fill_units`: the two share their loop alone, and what they add, refuse and number they would take as closures.
+// Not one function with `fill_units`, nor `load_wires` with `load_units`: what they add, refuse and number they would take as closures.
 fn fill_wires(bytes: &[u8], rig: &FileRig, wiring: &mut Wiring) -> Result<(), FileFault>
     ensures filled { WiresFilled (names_of rig.now) bytes.now result wiring.new }
     ensures grammar { WiresGrammar (names_of rig.now) bytes.now }

@@ -23,23 +23,21 @@ mod tests {
     // The units between which every wires file below is read.
     const BOAT: &[u8] = b"UNITS,1,5\nK,draw,1\nG,net,1,-1,0\nI,tank,5,0,20,100\n";
 
-    // Loads a units file, and answers its fault.
-    fn units_fault(heap: Global, bytes: &[u8]) -> Result<FileFault, Fail> {
+    // Loads a file, a wires file between the units of the boat, and answers its fault.
+    fn fault_of(heap: Global, file: FileKind, bytes: &[u8]) -> Result<FileFault, Fail> {
         let mut rig = FileRig::new(heap);
-        match load_units(bytes, &mut rig) {
-            Ok(_) => Err(Fail::new("the units file is not refused")),
+        let answer = match file {
+            FileKind::Units => load_units(bytes, &mut rig).map(|_| ()),
+            FileKind::Wires => {
+                load_units(BOAT, &mut rig)?;
+                load_wires(bytes, &rig, &mut Wiring::new()).map_err(LoadFault::from)
+            }
+        };
+        match answer {
+            Ok(()) => Err(Fail::new("the file is not refused")),
             Err(LoadFault::Refused(fault)) => Ok(fault),
             Err(LoadFault::NoMemory) => Err(Fail::new("no memory")),
         }
-    }
-
-    // Loads a wires file between the units of the boat, and answers its fault.
-    fn wires_fault(heap: Global, bytes: &[u8]) -> Result<FileFault, Fail> {
-        let mut rig = FileRig::new(heap);
-        load_units(BOAT, &mut rig)?;
-        let mut wiring = Wiring::new();
-        let refused = load_wires(bytes, &rig, &mut wiring).err();
-        Ok(refused.ok_or("the wires file is not refused")?)
     }
 
     // What is printed of a value.
@@ -60,15 +58,11 @@ mod tests {
     // Loads each file, and compares what is printed of it.
     fn check_cases(rt: &impl Abort, heap: Global, cases: &[Case]) -> Result<(), Fail> {
         for (file, bytes, expected) in cases {
-            let fault = match *file {
-                FileKind::Units => units_fault(heap, *bytes)?,
-                FileKind::Wires => wires_fault(heap, *bytes)?,
-            };
             let refused = RefusedFile {
                 path: "boat.csv",
                 file: *file,
                 bytes: *bytes,
-                fault,
+                fault: fault_of(heap, *file, *bytes)?,
             };
             check_text(rt, heap, &refused, *expected)?;
         }

@@ -76,6 +76,7 @@ impl From<RigFault> for Code {
             Target::Place(place) => place,
         };
         Code {
+            // `as` reads the numbers that the enum gives; a `From` would list them again.
             number: fault.cause as usize,
             layer: 4,
             a: fault.unit,

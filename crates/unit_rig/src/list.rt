@@ -2,7 +2,7 @@
 ghost use Rattle.std.specs.Prelude.{◌≡◌, ◌≤◌, [], map, length, take, vec_len};
 ghost use Rattle.rig.specs.Calls.{Call, Called, answer_of, put, step, save, restore, free};
 ghost use Rattle.unit_rig.specs.declared.list.PushFault.TheVariants.{NoMemory};
-ghost use Rattle.unit_rig.specs.Lending.{Reads, Changes, Lent};
+ghost use Rattle.unit_rig.specs.Lending.{Reads, LeftAs, Changes, Lent};
 ghost use Rattle.unit_rig.specs.Pushing.{Pushed};
 ghost use Rattle.unit_rig.specs.Soundness.{sound_list};
 
@@ -86,6 +86,7 @@ impl<U: UnitCalls> UnitRig<U> {
         requires { F.IsAlwaysCallable call }
         ensures { (k : Call U.Signal T) → k.target ≡ target → Reads F.FnOnce call U.UnitCalls.model k → result ≡ answer_of k (map U.UnitCalls.model self.now.units.items) unit }
     {
+        // No `ok_or` and `and_then(call)`: its proof is longer, and `lend` below cannot have it.
         match self.units.get(unit) {
             Some(lent) => blame(call(lent), unit, target),
             None => Err(RigFault::new(Cause::NoSuch, unit, target)),
@@ -104,6 +105,7 @@ impl<U: UnitCalls> UnitRig<U> {
         ensures { (k : Call U.Signal T) → k.target ≡ target → Changes F.FnOnce call U.UnitCalls.model U.UnitCalls.label_of k
             → Lent U.UnitCalls.model U.UnitCalls.label_of k self.old.units.items unit result self.new.units.items }
     {
+        // No `ok_or` and `and_then(call)`: what the closure leaves there the proof is not told, and the invariant stayed open.
         match self.units.get_mut(unit) {
             Some(lent) => blame(call(lent), unit, target),
             None => Err(RigFault::new(Cause::NoSuch, unit, target)),
@@ -138,7 +140,13 @@ impl<U: UnitCalls> Rig for UnitRig<U> {
     fn put(&mut self, unit: usize, port: usize, value: U::Signal) -> Result<(), RigFault>
         ensures { Lent U.UnitCalls.model U.UnitCalls.label_of (put port value) self.old.units.items unit result self.new.units.items }
     {
-        self.lend(unit, Target::Port(port), |lent| lent.put(port, value))
+        self.lend(
+            unit,
+            Target::Port(port),
+            |lent: &mut U| -> Result<(), Cause>
+                ensures { LeftAs U.UnitCalls.model U.UnitCalls.label_of (put port value) lent.old result lent.new }
+            { lent.put(port, value) },
+        )
     }
 
     fn get(&self, unit: usize, port: usize) -> Result<U::Signal, RigFault> {
@@ -148,24 +156,48 @@ impl<U: UnitCalls> Rig for UnitRig<U> {
     fn step(&mut self, unit: usize, h: u32) -> Result<u32, RigFault>
         ensures { Lent U.UnitCalls.model U.UnitCalls.label_of (step h) self.old.units.items unit result self.new.units.items }
     {
-        self.lend(unit, Target::Whole, |lent| lent.step(h))
+        self.lend(
+            unit,
+            Target::Whole,
+            |lent: &mut U| -> Result<u32, Cause>
+                ensures { LeftAs U.UnitCalls.model U.UnitCalls.label_of (step h) lent.old result lent.new }
+            { lent.step(h) },
+        )
     }
 
     fn save(&mut self, unit: usize, place: usize) -> Result<(), RigFault>
         ensures { Lent U.UnitCalls.model U.UnitCalls.label_of (save place) self.old.units.items unit result self.new.units.items }
     {
-        self.lend(unit, Target::Place(place), |lent| lent.save(place))
+        self.lend(
+            unit,
+            Target::Place(place),
+            |lent: &mut U| -> Result<(), Cause>
+                ensures { LeftAs U.UnitCalls.model U.UnitCalls.label_of (save place) lent.old result lent.new }
+            { lent.save(place) },
+        )
     }
 
     fn restore(&mut self, unit: usize, place: usize) -> Result<(), RigFault>
         ensures { Lent U.UnitCalls.model U.UnitCalls.label_of (restore place) self.old.units.items unit result self.new.units.items }
     {
-        self.lend(unit, Target::Place(place), |lent| lent.restore(place))
+        self.lend(
+            unit,
+            Target::Place(place),
+            |lent: &mut U| -> Result<(), Cause>
+                ensures { LeftAs U.UnitCalls.model U.UnitCalls.label_of (restore place) lent.old result lent.new }
+            { lent.restore(place) },
+        )
     }
 
     fn free(&mut self, unit: usize, place: usize) -> Result<(), RigFault>
         ensures { Lent U.UnitCalls.model U.UnitCalls.label_of (free place) self.old.units.items unit result self.new.units.items }
     {
-        self.lend(unit, Target::Place(place), |lent| lent.free(place))
+        self.lend(
+            unit,
+            Target::Place(place),
+            |lent: &mut U| -> Result<(), Cause>
+                ensures { LeftAs U.UnitCalls.model U.UnitCalls.label_of (free place) lent.old result lent.new }
+            { lent.free(place) },
+        )
     }
 }

@@ -29,7 +29,7 @@ impl<'a> Cursor<'a> {
         ensures answer { result ≡ heading_at cap_of (position_of self.old) }
         ensures cursor { position_of self.new ≡ after_heading cap_of (position_of self.old) }
     {
-        self.heading(|line| read_cap(line))
+        self.heading(read_cap)
     }
 
     /// Reads the first line of a wires file.
