@@ -63,13 +63,8 @@ impl TripRig {
         ensures { IfOk result (λ t. units_of t ≡ new_trip (read_pairs 4096 numbers.now)) }
     {
         let segments = read(heap, numbers, MOST_PAIRS)?;
-        let mut units = Vec::new(heap);
-        if let Some(position) = start(&segments) {
-            if let Some(unit) = Unit::new((), Trip { segments }, position) {
-                units.push(unit)?;
-            }
-        }
-        let table = UnitRig::from_units(units);
+        let unit = start(&segments).and_then(|position| Unit::new((), Trip { segments }, position));
+        let table = UnitRig::from_units(unit.into_iter().collect(heap)?);
         Ok(TripRig { table })
     }
 }
