@@ -29,16 +29,15 @@ fn first_pair(numbers: &[i32]) -> Option<(Segment, &[i32])>
 }
 
 /// The pairs of a list, at most so many, up to the first that is none.
+#[tactic(auto, using(crate::proofs::Pairs::one_more))]
 fn read(heap: Global, numbers: &[i32], most: usize) -> Result<Vec<Segment>, AllocError>
     ensures { IfOk result (λ v. flat v.items ≡ read_pairs most numbers.now) }
 {
     let mut segments = Vec::new(heap);
     let mut rest = numbers;
-    // `k` counts the turns alone: each takes the pair at the front of what is left.
-    for k in 0..most {
-        let Some((segment, later)) = first_pair(rest) else {
-            break;
-        };
+    while segments.len() < most
+        && let Some((segment, later)) = first_pair(rest)
+    {
         segments.push(segment)?;
         rest = later;
     }
