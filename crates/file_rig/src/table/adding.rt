@@ -62,6 +62,7 @@ impl FileRig {
     }
 
     /// The number of the unit with this name.
+    #[tactic(auto, using(crate::proofs::Finding::found_first))]
     pub fn find(&self, name: &[u8]) -> Option<usize>
         ensures { FoundAt (names_of self.now) name.now result }
     {
