@@ -1,8 +1,7 @@
 -- What a unit of a file rig is and how it stands: the design by which it would be made now.
-use Rattle.std.specs.Prelude.{◌≡◌, ℕ, List, ℤ, Some, Ok, Err, Result}
+use Rattle.std.specs.Prelude.{◌≡◌, ℕ, List, ℤ, Some, Ok, Err, Result, IsSomeAnd}
 use Rattle.std.specs.List.{slice_get}
 use Rattle.std.specs.Option.{option_map}
-use Rattle.rig.specs.declared.cause.Cause.{Cause}
 use Rattle.rig.specs.declared.cause.Target.TheVariants.{Whole}
 use Rattle.rig.specs.declared.cause.RigFault.{RigFault}
 use Rattle.rig.specs.Units.{RigUnit}
@@ -20,11 +19,7 @@ pub record StandsAs (d : Design) (x : RigUnit ℤ) : Type 0 where
   pub rules : x.rules ≡ rules_of (kind_as d)
   pub state : option_map (λ a. a.state) x.held ≡ Some (held_as d).state
 
--- one unit described, and a unit of the rig
-abbrev pub UnitDescribed : RigUnit ℤ → Result Design Cause → Type 0
-UnitDescribed x (Ok d) = StandsAs d x
-UnitDescribed x (Err e) = standing.answer x ≡ Err e
-
+-- unit u described
 abbrev pub Described : List (RigUnit ℤ) → ℕ → Result Design RigFault → Type 0
-Described us u (Ok d) = (x : RigUnit ℤ) × (slice_get us u ≡ Some x) × StandsAs d x
+Described us u (Ok d) = IsSomeAnd (slice_get us u) (StandsAs d)
 Described us u (Err f) = answer_of standing us u ≡ Err f

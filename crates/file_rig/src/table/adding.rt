@@ -48,6 +48,7 @@ impl FileRig {
     }
 
     /// What a unit is and how it stands: the design by which it would be made now.
+    #[tactic(auto, using(crate::proofs::Describing::described))]
     pub fn design(&self, unit: usize) -> Result<Design, RigFault>
         ensures { Described (units_of self.now) unit result }
     {
