@@ -5,13 +5,13 @@ use Rattle.names.specs.declared.name.Name.{Name}
 use Rattle.rig.specs.declared.cause.RigFault.{RigFault}
 use Rattle.rig.specs.Units.{RigUnit}
 use Rattle.rig.specs.Calls.{Call, Called}
-use Rattle.kinds.specs.Contents.{rules_of, held_of}
-use Rattle.memory.specs.Kept.{unit_from}
+use Rattle.unit_rig.specs.Rigs.{units_in}
 use Rattle.names.specs.Names.{text_of}
 use Rattle.file_rig.specs.declared.table.FileRig.{FileRig}
 
+-- each unit by the rules of its kind
 abbrev pub units_of : FileRig → List (RigUnit ℤ)
-units_of t = map (λ x. unit_from (rules_of x.behaviour) held_of x.memory) (vec_items t.table.units)
+units_of t = units_in t.table
 
 abbrev pub labels_of : FileRig → List Name
 labels_of t = map (λ x. x.label) (vec_items t.table.units)
