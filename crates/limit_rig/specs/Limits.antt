@@ -1,8 +1,10 @@
 -- The units of a rig under a limit.
-use Rattle.std.specs.Prelude.{◌≡◌, ℕ, min, max, Bool, true, false, cond, ◌&&◌, List, [], ◌∷◌, length, Some, None, Option, nat_le, nat_lt}
+use Rattle.std.specs.Prelude.{◌≡◌, ℕ, min, max, Bool, true, false, cond, ◌&&◌, List, [], ◌∷◌, length, Some, None, Ok, Err, Option, Result, nat_le, nat_lt, slice_index_or}
 use Rattle.std.specs.List.{slice_get}
 use Rattle.rig.specs.declared.cause.Cause.{Cause}
 use Rattle.rig.specs.declared.cause.Cause.TheVariants.{NoSuch, Loose, StepRange}
+use Rattle.rig.specs.declared.cause.Target.{Target}
+use Rattle.rig.specs.declared.cause.RigFault.{RigFault}
 use Rattle.rig.specs.Units.{Rules, Held, RigUnit}
 
 -- the nearest limit from 1 to 1,000,000
@@ -52,3 +54,8 @@ loose_if false = NoSuch
 abbrev pub step_cause : Bool → ℕ → Cause
 step_cause true h = cond (nat_le 1 h && nat_le h 1000000) Loose StepRange
 step_cause false h = NoSuch
+
+-- a unit whose flag is not set, or its refusal
+abbrev pub Unflagged : List Bool → ℕ → Target → Bool → Result (Unit {0}) RigFault → Type 0
+Unflagged flags u t there (Ok r) = slice_index_or flags u false ≡ false
+Unflagged flags u t there (Err f) = (slice_index_or flags u false ≡ true) × (f ≡ record { cause = loose_if there; unit = u; target = t })

@@ -38,16 +38,13 @@ pub(crate) fn number_within(text: &[u8], low: i32, high: i32) -> Option<i32>
     ensures value { result ≡ within low high (number_of text.now) }
     ensures range { IfSome result (λ n. (low ≤ℤ n) × (n ≤ℤ high)) }
 {
-    // No `filter`: over its closure the value was not proved.
     let n = number(text)?;
-    if !(low..=high).contains(&n) {
-        return None;
-    }
-    Some(n)
+    (low..=high).contains(&n).then_some(n)
 }
 
 /// The unit with this name.
-// Hands on to `find`, and says what it answers in the words of the grammar.
+// Not `find` itself: each caller would have to put its promise into the words of the grammar.
+#[tactic(auto, using(crate::proofs::Naming::found_is))]
 pub(crate) fn unit_named(known: &FileRig, name: &[u8]) -> Option<usize>
     ensures { result ≡ unit_named (names_of known.now) name.now }
 {

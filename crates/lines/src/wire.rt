@@ -6,6 +6,7 @@ pub struct End<'a> {
 }
 
 /// A line of a wires file.
+// An enum, though of one case: that lines are an enum whose names borrow the file is a rule of the project.
 #[derive(Clone, Copy)]
 pub enum WireLine<'a> {
     /// From an output of one unit to an input of another.

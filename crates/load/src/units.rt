@@ -29,6 +29,7 @@ fn add_line(rig: &mut FileRig, line: &UnitLine<'_>) -> Result<(), LoadFault>
 }
 
 /// Fills a rig line by line, up to the first line that cannot be read.
+#[tactic(auto, using(grammar::proofs::Whole::units_law))]
 fn fill_units(bytes: &[u8], rig: &mut FileRig) -> Result<u32, LoadFault>
     ensures filled { UnitsFilled bytes.now result rig.new }
     ensures grammar { UnitsGrammar bytes.now }

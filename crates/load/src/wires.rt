@@ -16,16 +16,17 @@ use wiring::port::Port;
 use wiring::table::Wiring;
 
 /// The port at an end whose unit is known.
+#[tactic(auto, using(lines::proofs::Naming::found_is))]
 fn resolve(rig: &FileRig, end: End<'_>) -> Port
     requires { (u : ℕ) × (unit_named (names_of rig.now) end.name.now ≡ Some u) }
     ensures { IsEnd (names_of rig.now) (end_said end.entry) result }
 {
-    match rig.find(end.name) {
-        Some(unit) => Port {
-            unit,
-            port: end.port,
-        },
-        None => unreachable(),
+    let Some(unit) = rig.find(end.name) else {
+        unreachable()
+    };
+    Port {
+        unit,
+        port: end.port,
     }
 }
 
@@ -46,6 +47,7 @@ fn add_wire(wiring: &mut Wiring, rig: &FileRig, line: &WireLine<'_>) -> Result<(
 
 /// Fills a wiring line by line, up to the first line that cannot be read.
 // Not one function with `fill_units`, nor `load_wires` with `load_units`: what they add, refuse and number they would take as closures.
+#[tactic(auto, using(grammar::proofs::Whole::wires_law))]
 fn fill_wires(bytes: &[u8], rig: &FileRig, wiring: &mut Wiring) -> Result<(), FileFault>
     ensures filled { WiresFilled (names_of rig.now) bytes.now result wiring.new }
     ensures grammar { WiresGrammar (names_of rig.now) bytes.now }
@@ -53,8 +55,11 @@ fn fill_wires(bytes: &[u8], rig: &FileRig, wiring: &mut Wiring) -> Result<(), Fi
     wiring.clear();
     let mut cursor = Cursor::new(bytes);
     cursor.wires_heading()?;
-    let mut number = cursor.line();
-    while let Some(answer) = cursor.next_wire(rig) {
+    loop {
+        let number = cursor.line();
+        let Some(answer) = cursor.next_wire(rig) else {
+            return Ok(());
+        };
         let line = answer?;
         // No `map_err` and `?`: over the closure the loop's goals stayed open.
         if let Err(fault) = add_wire(wiring, rig, &line) {
@@ -63,9 +68,7 @@ fn fill_wires(bytes: &[u8], rig: &FileRig, wiring: &mut Wiring) -> Result<(), Fi
                 fault,
             });
         }
-        number = cursor.line();
     }
-    Ok(())
 }
 
 /// Fills a wiring with the wires of a wires file between units of a loaded rig. A file that is refused leaves it without wires.

@@ -249,9 +249,14 @@ fn check_long<D: Destination>(
     into: &mut D,
     rows: &[Long],
 ) -> Result<(), Fail> {
-    for (row, long) in rows.iter().enumerate() {
+    for long in rows {
         let file = written(heap, long)?;
-        assert_eq!(rt; loaded(heap, into, &[&file])?, (long.told, 0), "row {row}");
+        let Long { before, part, .. } = long;
+        assert_eq!(rt;
+            loaded(heap, into, &[&file])?,
+            (long.told, 0),
+            "{before:?} {part:?}"
+        );
     }
     Ok(())
 }
@@ -315,12 +320,16 @@ fn check_around<D: Destination>(
     into: &mut D,
     rows: &[Around],
 ) -> Result<(), Fail> {
-    for (row, around) in rows.iter().enumerate() {
-        let file = around_values(heap, around.before, around.after)?;
+    for Around {
+        before,
+        after,
+        told,
+    } in rows {
+        let file = around_values(heap, before, after)?;
         assert_eq!(rt;
             loaded(heap, into, &[&file])?,
-            (around.told, 0),
-            "row {row}"
+            (*told, 0),
+            "{before:?} {after:?}"
         );
     }
     Ok(())

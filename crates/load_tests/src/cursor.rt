@@ -203,14 +203,14 @@ fn a_cursor_without_a_heading(rt: HostRuntime) {
         line: 1,
         fault: LineFault::FirstLine,
     };
-    for (row, file) in NO_HEADING.iter().enumerate() {
+    for file in &NO_HEADING {
         let mut units = Cursor::new(file);
-        assert_eq!(rt; units.units_heading(), Err(fault), "{}", row);
-        assert_eq!(rt; place(&units), (1, file.len()), "{}", row);
-        assert!(rt; units.next_unit(&rig).is_none(), "{}", row);
+        assert_eq!(rt; units.units_heading(), Err(fault), "{file:?}");
+        assert_eq!(rt; place(&units), (1, file.len()), "{file:?}");
+        assert!(rt; units.next_unit(&rig).is_none(), "{file:?}");
         let mut wires = Cursor::new(file);
-        assert_eq!(rt; wires.wires_heading(), Err(fault), "{}", row);
-        assert_eq!(rt; place(&wires), (1, file.len()), "{}", row);
-        assert!(rt; wires.next_wire(&rig).is_none(), "{}", row);
+        assert_eq!(rt; wires.wires_heading(), Err(fault), "{file:?}");
+        assert_eq!(rt; place(&wires), (1, file.len()), "{file:?}");
+        assert!(rt; wires.next_wire(&rig).is_none(), "{file:?}");
     }
 }

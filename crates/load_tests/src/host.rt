@@ -66,7 +66,6 @@ const ADDED: [Added; 31] = [
 // Every input has the source that it had, but one that was wired since.
 fn differ_at_most_at(
     rt: &impl Abort,
-    row: usize,
     before: &Wiring,
     after: &Wiring,
     wired: Option<(Port, Port)>,
@@ -81,7 +80,7 @@ fn differ_at_most_at(
             assert_eq!(rt;
                 after.source(at),
                 source,
-                "row {row}, unit {unit}, input {port}"
+                "unit {unit}, input {port}, wired since {wired:?}"
             );
         }
     }
@@ -91,13 +90,12 @@ fn differ_at_most_at(
 #[test]
 fn wires_by_numbers(rt: HostRuntime) -> Result<(), Fail> {
     let mut wiring = Wiring::new();
-    for (row, added) in ADDED.iter().enumerate() {
-        let Added { from, to, told } = *added;
+    for Added { from, to, told } in &ADDED {
         let before = wiring;
-        let answer = wiring.add(from, to).err().map(Code::from);
-        assert_eq!(rt; answer, told, "row {row}");
-        let wired = told.is_none().then_some((from, to));
-        differ_at_most_at(&rt, row, &before, &wiring, wired)?;
+        let answer = wiring.add(*from, *to).err().map(Code::from);
+        assert_eq!(rt; answer, *told, "{from:?} {to:?}");
+        let wired = told.is_none().then_some((*from, *to));
+        differ_at_most_at(&rt, &before, &wiring, wired)?;
     }
     assert_eq!(rt; wiring.source(port!(FAR, FAR)), None);
     Ok(())

@@ -11,4 +11,4 @@ pub sound_rules : SoundRules trip
 sound_rules = record { inputs = omega arith; outputs = omega arith; masks = (omega arith, tt); reads = λ port l st xs ys lx ly agree. refl }
 
 pub suits_trip : (segments : List Segment) (p : Position) → Suits trip (held_at segments p)
-suits_trip segments p = record { signals = refl; bound = λ xs l. p.few }
+suits_trip segments p = record { signals = refl; bound = λ xs l. p.present.few }

@@ -18,7 +18,7 @@ FirstPair zs (Some p) = (are_ticks (pos p.0.ticks) ≡ true) × (zs ≡ pos p.0.
 
 -- what is still to be played from a position
 abbrev pub future : List Segment → Position → List ℤ
-future segments p = pos p.left ∷ p.value ∷ flat (drop p.later segments)
+future segments p = flat (p.present ∷ drop p.later segments)
 
 abbrev pub held_at : List Segment → Position → Held ℤ
 held_at segments p = record { state = future segments p; inputs = [] }

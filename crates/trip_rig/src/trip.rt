@@ -11,13 +11,11 @@ pub struct Segment {
     ghost few: { ticks ≤ 1000000 },
 }
 
-/// Where a trip stands: the ticks left in the present pair, its value, and the number of the first pair after it.
+/// Where a trip stands: what is left of the present pair, and the number of the first pair after it.
 #[derive(Clone, Copy)]
 pub struct Position {
-    left: u32,
-    value: i32,
+    present: Segment,
     later: usize,
-    ghost few: { left ≤ 1000000 },
 }
 
 /// The pairs of a trip.

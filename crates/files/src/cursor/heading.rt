@@ -14,14 +14,13 @@ impl<'a> Cursor<'a> {
         requires { F.IsAlwaysCallable judge }
         ensures { HeadedBy F.FnOnce judge (position_of self.old) result (position_of self.new) }
     {
-        let Some(Ok(line)) = self.front() else {
-            return Err(self.stop(LineFault::FirstLine));
-        };
-        let Some(told) = judge(line) else {
-            return Err(self.stop(LineFault::FirstLine));
-        };
-        self.pass(line.len());
-        Ok(told)
+        if let Some(Ok(line)) = self.front()
+            && let Some(told) = judge(line)
+        {
+            self.pass(line.len());
+            return Ok(told);
+        }
+        Err(self.stop(LineFault::FirstLine))
     }
 
     /// Reads the first line of a units file, and answers its cap.

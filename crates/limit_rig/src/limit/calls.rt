@@ -1,7 +1,7 @@
 // A rig under a limit behind the interface of a rig.
 ghost use Rattle.std.specs.Prelude.{◌≡◌, false, is_some, slice_index_or};
 ghost use Rattle.std.specs.List.{slice_get};
-ghost use Rattle.limit_rig.specs.Limits.{units_under, input_in, output_in};
+ghost use Rattle.limit_rig.specs.Limits.{units_under, input_in, output_in, Unflagged};
 ghost use Rattle.limit_rig.specs.Covering.{sound_under};
 
 use super::Limit;
@@ -18,6 +18,16 @@ impl<R: Rig> Limit<R> {
         self.flags.get(unit).copied().unwrap_or(false)
     }
 
+    /// Refuses a unit that is loose by its flag, by whether what was asked for is there.
+    fn unflagged(&self, unit: usize, target: Target, there: bool) -> Result<(), RigFault>
+        ensures { Unflagged self.now.flags unit target there result }
+    {
+        if self.is_flagged(unit) {
+            return Err(RigFault::new(loose_if(there), unit, target));
+        }
+        Ok(())
+    }
+
     /// Whether there is such a unit.
     #[tactic(auto, using(std::proofs::lemmas::Option::slice_get_past, std::proofs::lemmas::Option::slice_get_within))]
     fn has_unit(&self, unit: usize) -> bool
@@ -27,7 +37,7 @@ impl<R: Rig> Limit<R> {
     }
 
     /// Whether a unit has this input.
-    // Apart from `has_output`: each says one rule, by its own definition.
+    // Apart from `has_output`: one function of both would take the count as a closure, and its contract both definitions.
     fn has_input(&self, unit: usize, port: usize) -> bool
         ensures { result ≡ input_in port (slice_get (R.Rig.model self.now.below) unit) }
     {
@@ -46,7 +56,6 @@ impl<R: Rig> Limit<R> {
     }
 }
 
-// Four calls ask first whether the unit is loose by its flag: each has a cause of its own to tell then.
 /// The units below, BOUND of each being at most the limit. A step above the limit leaves a unit loose.
 #[tactic(auto, using(crate::specs::Limiting::limiting))]
 impl<R: Rig> Rig for Limit<R> {
@@ -80,19 +89,13 @@ impl<R: Rig> Rig for Limit<R> {
 
     /// Sets an input below, unless the flag is set.
     fn put(&mut self, unit: usize, port: usize, value: R::Signal) -> Result<(), RigFault> {
-        if self.is_flagged(unit) {
-            let cause = loose_if(self.has_input(unit, port));
-            return Err(RigFault::new(cause, unit, Target::Port(port)));
-        }
+        self.unflagged(unit, Target::Port(port), self.has_input(unit, port))?;
         self.below.put(unit, port, value)
     }
 
     /// Reads an output below, unless the flag is set.
     fn get(&self, unit: usize, port: usize) -> Result<R::Signal, RigFault> {
-        if self.is_flagged(unit) {
-            let cause = loose_if(self.has_output(unit, port));
-            return Err(RigFault::new(cause, unit, Target::Port(port)));
-        }
+        self.unflagged(unit, Target::Port(port), self.has_output(unit, port))?;
         self.below.get(unit, port)
     }
 
@@ -112,10 +115,7 @@ impl<R: Rig> Rig for Limit<R> {
 
     /// Saves below, unless the flag is set.
     fn save(&mut self, unit: usize, place: usize) -> Result<(), RigFault> {
-        if self.is_flagged(unit) {
-            let cause = loose_if(self.has_unit(unit) && place < 4);
-            return Err(RigFault::new(cause, unit, Target::Place(place)));
-        }
+        self.unflagged(unit, Target::Place(place), self.has_unit(unit) && place < 4)?;
         self.below.save(unit, place)
     }
 

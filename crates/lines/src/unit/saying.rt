@@ -11,8 +11,9 @@ impl<'a> UnitLine<'a> {
         ensures { result.now ≡ (unit_said self.now).name }
     {
         match *self {
-            UnitLine::Integrator { name, .. } | UnitLine::Gain { name, .. } => name,
-            UnitLine::Constant { name, .. } => name,
+            UnitLine::Integrator { name, .. }
+            | UnitLine::Gain { name, .. }
+            | UnitLine::Constant { name, .. } => name,
         }
     }
 

@@ -7,7 +7,7 @@ use rig::cause::RigFault;
 use rig::shape::{Ports, Status};
 
 /// Each call is that of the list with the one unit.
-// Not an alias of `UnitRig`: that there is at most one unit is a fact of this type.
+// Not an alias of `UnitRig`: `new` is a method, and a type of another crate takes none.
 #[tactic(auto, using(unit_rig::proofs::Listing::lent_count))]
 impl Rig for TripRig {
     type Signal = i32;

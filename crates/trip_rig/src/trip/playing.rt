@@ -4,7 +4,7 @@ ghost use Rattle.trip_rig.specs.Playing.{trip};
 ghost use Rattle.trip_rig.specs.Trips.{held_at};
 ghost use Rattle.trip_rig.specs.Soundness.{sound_rules, suits_trip};
 
-use super::{Position, Trip};
+use super::{Position, Segment, Trip};
 use rig::behaviour::Behaviour;
 
 /// One output, the present value, and no input.
@@ -40,37 +40,35 @@ impl Behaviour for Trip {
     }
 
     fn out(&self, position: Position, _: usize) -> i32 {
-        position.value
+        position.present.value
     }
 
     fn bound(&self, position: Position) -> u32 {
-        position.left
+        position.present.ticks
     }
 
     /// h ticks further, or none where fewer are left in the pair. Where none is left the next pair is at once the present one.
     fn next(&self, position: Position, h: u32) -> Option<Position> {
-        if h > position.left {
+        let Segment { ticks, value } = position.present;
+        if h > ticks {
             return None;
         }
-        // No `..position`: beside a ghost field it is refused.
-        if h < position.left {
-            return Some(Position {
-                left: position.left - h,
-                value: position.value,
-                later: position.later,
-            });
+        let left = Position {
+            present: Segment {
+                ticks: ticks - h,
+                value,
+            },
+            ..position
+        };
+        if h < ticks {
+            return Some(left);
         }
         Some(match self.segments.get(position.later) {
-            Some(segment) => Position {
-                left: segment.ticks,
-                value: segment.value,
+            Some(next) => Position {
+                present: *next,
                 later: position.later + 1,
             },
-            None => Position {
-                left: 0,
-                value: position.value,
-                later: position.later,
-            },
+            None => left,
         })
     }
 

@@ -33,6 +33,7 @@ fn first_pair(numbers: &[i32]) -> Option<(Segment, &[i32])>
 fn read(heap: Global, numbers: &[i32], most: usize) -> Result<Vec<Segment>, AllocError>
     ensures { IfOk result (λ v. flat v.items ≡ read_pairs most numbers.now) }
 {
+    // No `as_chunks`, `take` and `map_while`: what they return was not proved.
     let mut segments = Vec::new(heap);
     let mut rest = numbers;
     while segments.len() < most
@@ -48,12 +49,8 @@ fn read(heap: Global, numbers: &[i32], most: usize) -> Result<Vec<Segment>, Allo
 fn start(segments: &[Segment]) -> Option<Position>
     ensures { StartsAt segments.now result }
 {
-    let first = segments.first()?;
-    Some(Position {
-        left: first.ticks,
-        value: first.value,
-        later: 1,
-    })
+    let present = *segments.first()?;
+    Some(Position { present, later: 1 })
 }
 
 impl TripRig {

@@ -50,9 +50,6 @@ returns-in_err-line c =
       grammar = units_law c.args.bytes.now;
     }
 
-pub returns : goal.returns
-returns c = record { filled = search rules; grammar = units_law c.args.bytes.now }
-
 pub loop-answer-init : goal.loop-answer-init
 loop-answer-init c =
     let h = head_read cap_of (λ n lines. with_cap n (lines_from judge_unit 2 [] lines)) c.args.bytes.now c.in_ok-most.most (sym c.in_ok-most.was ∙ (c.units_heading.ensures.answer ∙ ap (heading_at cap_of) c.new-cursor.ensures)) in

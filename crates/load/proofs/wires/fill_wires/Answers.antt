@@ -20,7 +20,6 @@ loop-answer-init c =
       [],
       c.clear.ensures,
       h.file ∙ sym (ap (λ p. lines_from (judge_wire known) p.line [] (ahead p)) q),
-      c.line-number.ensures,
     )
 
 pub add_wire-requires : goal.add_wire-requires
@@ -38,18 +37,9 @@ returns-in-Err c =
     let t = c.in-Err.ensures a.wire a.names in
     record {
       filled = c.loop-answer.invariant.2 ∙ (wires_twice known ws a.wire p a.ahead t.1.0 (sym (c.loop-answer.invariant.1 a.wire.to.unit a.wire.to.port) ∙ t.1.1)
-          ∙ (ap (λ l. Err (fault_at l _)) (sym c.loop-answer.invariant.3) ∙ ap (λ e. Err (fault_at c.loop-answer.number e)) (sym t.0)));
+          ∙ (ap (λ l. Err (fault_at l _)) (sym c.line-number.ensures) ∙ ap (λ e. Err (fault_at c.line-number.result e)) (sym t.0)));
       grammar = wires_law known c.args.bytes.now;
     }
-
-pub returns-in_err-wires_heading : goal.returns-in_err-wires_heading
-returns-in_err-wires_heading c = record { filled = search rules; grammar = wires_law (names_of c.args.rig.now) c.args.bytes.now }
-
-pub returns-in_err-line : goal.returns-in_err-line
-returns-in_err-line c = record { filled = search rules; grammar = wires_law (names_of c.args.rig.now) c.args.bytes.now }
-
-pub returns : goal.returns
-returns c = record { filled = search rules; grammar = wires_law (names_of c.args.rig.now) c.args.bytes.now }
 
 pub loop-answer-preserved : goal.loop-answer-preserved
 loop-answer-preserved c =
@@ -63,7 +53,6 @@ loop-answer-preserved c =
       held_wire c.loop-answer.wiring c.add_wire.new.wiring ws a.wire c.loop-answer.invariant.1 t.0 t.1,
       c.loop-answer.invariant.2 ∙ (wires_on known ws a.wire p a.ahead (sym (c.loop-answer.invariant.1 a.wire.to.unit a.wire.to.port) ∙ t.0)
           ∙ sym (ap (λ r. lines_from (judge_wire known) r.line (ws ++ a.wire ∷ []) (ahead r)) q)),
-      c.line-number-in-Some.ensures,
     )
 
 pub loop-answer-smaller : goal.loop-answer-smaller

@@ -10,7 +10,6 @@ abbrev pub invariant-loop-answer : goal.invariant-loop-answer
 invariant-loop-answer l =
     (ws : List Wire) × HoldsWires l.wiring ws
     × (wires_file (names_of l.rig) l.bytes ≡ lines_from (judge_wire (names_of l.rig)) l.cursor.line ws (ahead (position_of l.cursor)))
-    × (l.number ≡ l.cursor.line)
 
 abbrev pub decreases-loop-answer : goal.decreases-loop-answer
 decreases-loop-answer l = length l.cursor.bytes.now - l.cursor.at
