@@ -134,7 +134,7 @@ fn print_wire(rt: &HostRuntime, rig: &FileRig, wiring: &Wiring, to: Port) -> any
 }
 
 /// Prints every wire, in the order of the inputs that they lead to.
-// By number: a wiring answers of one input at a time, and lends no rows.
+// By number, as a wiring answers: over rows, numbered twice by `enumerate`, it would be no plainer.
 fn print_wires(rt: &HostRuntime, rig: &FileRig, wiring: &Wiring) -> anyhow::Result<()> {
     for unit in 0..16 {
         for port in 0..8 {

@@ -4,13 +4,15 @@ use Rattle.std.specs.List.{slice_get}
 use Rattle.std.specs.Option.{option_copied, unwrap_or}
 use Rattle.std.proofs.lemmas.Option.{unwrap_or-slice_get}
 use Rattle.std.proofs.lemmas.Bool.{eq-eqb, ne_eqb, cases_eq}
-use Rattle.std.proofs.lemmas.List.Splits.{slice_split-cons_yes, slice_split-cons_no, length-slice_split, join_with_byte-slice_split}
-use Rattle.std.specs.List.{AllByRecursion, onto_first, count_by}
+use Rattle.std.proofs.lemmas.List.Splits.{slice_split-cons_yes, slice_split-cons_no, slice_split_none, slice_split_at, length-slice_split, join_with_byte-slice_split}
+use Rattle.std.specs.List.{AllByRecursion, onto_first, count_by, All}
+use Rattle.std.proofs.lemmas.List.{drop_at, drop-drop}
+use Rattle.std.proofs.lemmas.List.Elements.{All-weaker, All-from_recursion}
+use Rattle.std.specs.Prelude.{◌≢◌, false}
 use Rattle.fields.specs.Parts.{parts, joined_by, Lacks, PartsLaw, FirstAt}
 
 drop_past : (p : List ℕ) (b : ℕ) (t : List ℕ) → drop (suc (length p)) (p ++ (b ∷ t)) ≡ t
-drop_past [] b t = refl
-drop_past (a ∷ p) b t = drop_past p b t
+drop_past p b t = let n : suc (length p) ≡ length p + 1 = omega arith in ap (λ k. drop k (p ++ (b ∷ t))) n ∙ sym (drop-drop 1 (length p) (p ++ (b ∷ t))) ∙ ap (drop 1) (drop_at p (b ∷ t) (length p) refl)
 
 -- a part that was looked up, or nothing in its place
 pub part_or_empty : (r : Option (Bor (List ℕ))) (d : Bor (List ℕ)) (ps : List (List ℕ)) (i : ℕ) → option_copied r ≡ slice_get ps i → d.now ≡ [] → (unwrap_or r d).now ≡ get_or ps i []
@@ -60,14 +62,15 @@ module _ (sep : ℕ) where
       (λ (ne : b ≡ sep → ⊥). subst (AllByRecursion (Lacks sep)) (sym (parts_other b bs ne)) (apart_onto b (parts sep bs) ne (apart_parts bs)))
       (cases_eq b sep)
 
+  lacking : (p : List ℕ) → Lacks sep p → All (λ b. eqb b sep ≡ false) p
+  lacking p a = All-weaker (λ b. b ≢ sep) (λ b. eqb b sep ≡ false) (λ b ne. ne_eqb b sep ne) p (All-from_recursion (λ b. b ≢ sep) p a)
+
   -- parts that lack the separator are found again in what they make when joined
   parts_lone : (p : List ℕ) → Lacks sep p → parts sep p ≡ p ∷ []
-  parts_lone [] a = refl
-  parts_lone (b ∷ bs) a = parts_other b bs a.0 ∙ ap (onto_first b) (parts_lone bs a.1)
+  parts_lone p a = slice_split_none (λ b. eqb b sep) p (lacking p a)
 
   pub parts_append : (p t : List ℕ) → Lacks sep p → parts sep (p ++ (sep ∷ t)) ≡ p ∷ parts sep t
-  parts_append [] t a = parts_sep sep t refl
-  parts_append (b ∷ bs) t a = parts_other b (bs ++ (sep ∷ t)) a.0 ∙ ap (onto_first b) (parts_append bs t a.1)
+  parts_append p t a = slice_split_at (λ b. eqb b sep) p sep t (lacking p a) (eq-eqb sep sep refl)
 
   pub parts_joined : (ps : List (List ℕ)) → 1 ≤ length ps → AllByRecursion (Lacks sep) ps → parts sep (joined_by sep ps) ≡ ps
   parts_joined [] h a = absurd (omega arith)

@@ -4,6 +4,7 @@ ghost use Rattle.std.specs.Option.{option_copied};
 ghost use Rattle.fields.specs.Parts.{parts, FirstAt, PartsLaw};
 
 /// Where the first separator of a text stands.
+// Text and separator stand apart, here and below, as in `split`: a struct of both would be made anew for each call.
 pub fn first_at(text: &[u8], sep: u8) -> Option<usize>
     ensures { FirstAt sep text.now result }
 {

@@ -15,7 +15,8 @@ pub fn number(text: &[u8]) -> Option<i32>
 }
 
 /// The number below 0 with these digits after its minus sign.
-// The casts here and below are proved to lose nothing; `try_from` would bring a case that never comes.
+// The casts here and below are proved to lose nothing; `try_from` would bring a case that never comes. Nor `parse`, which takes
+// a plus sign, leading zeros and -0: with tests against these it would be no plainer.
 fn negative(digits: &[u8]) -> Option<i32>
     ensures { result ≡ option_map (λ n. negsuc (n - 1)) (whole_in 1 2147483648 digits.now) }
 {

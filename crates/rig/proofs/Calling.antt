@@ -1,21 +1,18 @@
 -- A call of one unit, as a call of its rig.
-use Rattle.std.proofs.Common.{◌≡◌, ℕ, zero, suc, ◌<◌, ◌≤◌, List, [], ◌∷◌, length, set, Some, Err, Result, sym, refl, ap, ◌∙◌, arith}
+use Rattle.std.proofs.Common.{◌≡◌, ℕ, zero, suc, ◌<◌, ◌≤◌, List, [], ◌∷◌, length, set, Some, Err, Result, sym, refl, ap, ◌∙◌, ⊎_elim, arith}
 use Rattle.std.specs.List.{slice_get}
-use Rattle.std.proofs.lemmas.Option.{slice_get_past}
+use Rattle.std.proofs.lemmas.Option.{slice_get_past, slice_get_cases, get_or_from_slice_get}
+use Rattle.std.proofs.lemmas.List.{set-get_or}
 use Rattle.rig.specs.declared.cause.Cause.{Cause}
 use Rattle.rig.specs.declared.cause.Cause.TheVariants.{NoSuch}
 use Rattle.rig.specs.Units.{RigUnit}
 use Rattle.rig.specs.Calls.{Call, Called, UnitCalled, answer_of, answer_in, blamed, after_in}
 
 pub nth_some : {X : Type 0} (us : List X) (u : ℕ) → u < length us → (x : X) × (slice_get us u ≡ Some x)
-nth_some [] u h = absurd (omega arith)
-nth_some (x ∷ us) zero h = (x, refl)
-nth_some (x ∷ us) (suc u) h = nth_some us u (omega arith)
+nth_some us u h = ⊎_elim (λ w. (w.0, w.2)) (λ p. absurd (omega (arith, h, p.0))) (slice_get_cases us u).1
 
 pub set_nth : {X : Type 0} (us : List X) (u : ℕ) (x : X) → slice_get us u ≡ Some x → set us u x ≡ us
-set_nth [] u x e = refl
-set_nth (y ∷ us) zero x e = let q : x ≡ y = cc in ap (λ z. z ∷ us) q
-set_nth (y ∷ us) (suc u) x e = ap (λ z. y ∷ z) (set_nth us u x e)
+set_nth us u x e = ap (set us u) (sym (get_or_from_slice_get us u x x e)) ∙ set-get_or us u x
 
 -- unit u is there
 module _ {S T : Type 0} (k : Call S T) (us : List (RigUnit S)) (u : ℕ) {x : RigUnit S} (there : slice_get us u ≡ Some x) where

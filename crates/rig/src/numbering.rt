@@ -15,5 +15,5 @@ pub fn blame<T>(answer: Result<T, Cause>, unit: usize, target: Target) -> Result
 pub fn renumber<T>(answer: Result<T, RigFault>, unit: usize) -> Result<T, RigFault>
     ensures { result ≡ renumbered unit answer }
 {
-    answer.map_err(|fault| RigFault::new(fault.cause, unit, fault.target))
+    answer.map_err(|fault| RigFault { unit, ..fault })
 }

@@ -86,15 +86,16 @@ impl<U: UnitCalls> UnitRig<U> {
         requires { F.IsAlwaysCallable call }
         ensures { (k : Call U.Signal T) → k.target ≡ target → Reads F.FnOnce call U.UnitCalls.model k → result ≡ answer_of k (map U.UnitCalls.model self.now.units.items) unit }
     {
-        // No `ok_or` and `and_then(call)`: its proof is longer, and `lend` below cannot have it.
-        match self.units.get(unit) {
-            Some(lent) => blame(call(lent), unit, target),
-            None => Err(RigFault::new(Cause::NoSuch, unit, target)),
-        }
+        let lent = self
+            .units
+            .get(unit)
+            .ok_or(RigFault::new(Cause::NoSuch, unit, target))?;
+        blame(call(lent), unit, target)
     }
 
     /// Lends one unit to a function that changes it.
-    // Twice, for `&` and for `&mut`, as the library has `get` and `get_mut`.
+    // Apart from `read`: over `&` and `&mut` there is no generic. For every call that its closure makes: a ghost value of
+    // a type parameter's type, by which a caller would name the one, is not taken.
     fn lend<T, F: FnOnce(&mut U) -> Result<T, Cause>>(
         &mut self,
         unit: usize,
@@ -105,11 +106,11 @@ impl<U: UnitCalls> UnitRig<U> {
         ensures { (k : Call U.Signal T) → k.target ≡ target → Changes F.FnOnce call U.UnitCalls.model U.UnitCalls.label_of k
             → Lent U.UnitCalls.model U.UnitCalls.label_of k self.old.units.items unit result self.new.units.items }
     {
-        // No `ok_or` and `and_then(call)`: what the closure leaves there the proof is not told, and the invariant stayed open.
-        match self.units.get_mut(unit) {
-            Some(lent) => blame(call(lent), unit, target),
-            None => Err(RigFault::new(Cause::NoSuch, unit, target)),
-        }
+        let lent = self
+            .units
+            .get_mut(unit)
+            .ok_or(RigFault::new(Cause::NoSuch, unit, target))?;
+        blame(call(lent), unit, target)
     }
 }
 

@@ -98,6 +98,7 @@ impl<L: Copy, B: Behaviour + Drop> Unit<L, B> {
         ensures { MatchOption result (B.Behaviour.owns behaviour contents ≡ false)
             (λ x. (B.Behaviour.owns behaviour contents ≡ true) × (x.label ≡ label) × (x.behaviour ≡ behaviour) × Fresh contents x.memory) }
     {
+        // No `then`: in its closure the proof does not know that the contents are the unit's own.
         if !behaviour.fits(contents) {
             return None;
         }

@@ -61,8 +61,7 @@ impl Integrator {
         if h > self.m.ticks {
             return None;
         }
-        let x = between(self.lo, advance(self.x, self.u, h), self.hi)?;
-        self.x = x;
+        self.x = between(self.lo, advance(self.x, self.u, h), self.hi)?;
         Some(self)
     }
 

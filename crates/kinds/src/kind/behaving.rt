@@ -7,7 +7,7 @@ use super::super::body::Body;
 use super::Kind;
 use rig::behaviour::Behaviour;
 
-// `inputs` and `mask` hand on to those of `Kind` itself, which are public and answer of a kind without this trait.
+// Six calls hand on to public methods of `Kind` and `Body`, whose promises are to stay.
 impl Behaviour for Kind {
     type Signal = i32;
 

@@ -49,6 +49,7 @@ impl Name {
     }
 
     /// Whether the name has this text.
+    // No `PartialEq` with a text: written by hand it would be no plainer.
     pub fn is(&self, text: &[u8]) -> bool
         ensures { Decides result (text_of self.now ≡ text.now) }
     {

@@ -1,17 +1,13 @@
-use Rattle.std.proofs.Common.{◌≡◌, map, Err, refl, subst}
+use Rattle.std.proofs.Common.{rules, ◌≡◌, ◌<◌, length, get_or, map, refl, subst}
 use Rattle.rig.specs.Calls.{answer_of}
-use Rattle.unit_rig.proofs.Listing.{told_missing, told_there}
+use Rattle.unit_rig.proofs.Listing.{told_there}
 use Rattle.unit_rig.proofs.list.UnitRig.read.Goals as goal
 
-pub returns-in-Some : goal.returns-in-Some
-returns-in-Some g c k target reads =
+pub returns : goal.returns
+returns g c k target reads =
     let model = g.U.UnitCalls.model in
+    let inside : c.args.unit < length c.deref.result.now = search rules in
+    let read : c.in_ok-lent.lent.now ≡ get_or c.deref.result.now c.args.unit c.in_ok-lent.lent.now = search rules in
     subst (λ us. c.blame.result ≡ answer_of k (map model us) c.args.unit) c.deref.ensures.value
-    (told_there model g.U.UnitCalls.label_of k c.deref.result.now c.args.unit target c.in-Some.ensures.lookup.3.0 c.in-Some.ensures.lookup.1 c.call.result c.blame.ensures
-    (reads c.in-Some.lent.now c.call.result (c.in-Some.lent, c.call.ensures, refl)))
-
-pub returns-in-None : goal.returns-in-None
-returns-in-None g c k target reads =
-    let model = g.U.UnitCalls.model in
-    subst (λ us. Err c.new.result ≡ answer_of k (map model us) c.args.unit) c.deref.ensures.value
-    (told_missing model g.U.UnitCalls.label_of k c.deref.result.now c.args.unit target c.new.ensures c.in-None.ensures.lookup.3)
+    (told_there model g.U.UnitCalls.label_of k c.deref.result.now c.args.unit target inside read c.call.result c.blame.ensures
+    (reads c.in_ok-lent.lent.now c.call.result (c.in_ok-lent.lent, c.call.ensures, refl)))
