@@ -14,6 +14,7 @@ use report::wire::{EndText, WireText};
 use rig::Rig;
 use std::process::ExitCode;
 use std::{env, fs, io};
+use thiserror::Error;
 use wiring::port::Port;
 use wiring::table::Wiring;
 
@@ -22,18 +23,14 @@ prints the cap, the units and the wires that the two files tell, or the first li
 
 /// Why the program ends with status 1.
 // No `Option` of an error: that `None` is told already it would not say.
-#[derive(Drop)]
+#[derive(Debug, Drop, Error)]
 enum Stop {
     /// What is wrong has been printed.
+    #[error("what is wrong has been printed")]
     Told,
     /// Something outside the files failed, as a write to standard output.
-    Failed(anyhow::Error),
-}
-
-impl From<anyhow::Error> for Stop {
-    fn from(error: anyhow::Error) -> Stop {
-        Stop::Failed(error)
-    }
+    #[error(transparent)]
+    Failed(#[from] anyhow::Error),
 }
 
 impl From<io::Error> for Stop {
@@ -44,10 +41,7 @@ impl From<io::Error> for Stop {
 
 /// Why the program ends, once what is wrong has been printed.
 fn told(printed: io::Result<()>) -> Stop {
-    match printed {
-        Ok(()) => Stop::Told,
-        Err(error) => Stop::from(error),
-    }
+    printed.err().map_or(Stop::Told, Stop::from)
 }
 
 /// The bytes of a file; where they cannot be read, standard error tells its path.
@@ -55,42 +49,16 @@ fn read_file(rt: &HostRuntime, path: &str) -> Result<Vec<u8>, Stop> {
     fs::read(rt, path).map_err(|error| told(eprintln!(rt; "{path}: {error}")))
 }
 
-/// Fills the rig with the units of a file, and answers the file's cap.
-fn take_units<'a>(
-    rt: &HostRuntime,
-    path: &'a str,
-    bytes: &'a [u8],
-    rig: &mut FileRig,
-) -> Result<u32, Stop> {
-    load_units(bytes, rig).map_err(|fault| {
-        told(match fault {
-            LoadFault::Refused(fault) => rt.println(RefusedFile {
-                path,
-                file: FileKind::Units,
-                bytes,
-                fault,
-            }),
-            LoadFault::NoMemory => rt.println(NoMemory { path }),
-        })
-    })
-}
-
-/// Fills the wiring with the wires of a file.
-// Not one function with `take_units`: they share the path and the bytes, and nothing that they do with them.
-fn take_wires<'a>(
-    rt: &HostRuntime,
-    path: &'a str,
-    bytes: &'a [u8],
-    rig: &FileRig,
-    wiring: &mut Wiring,
-) -> Result<(), Stop> {
-    load_wires(bytes, rig, wiring).map_err(|fault| {
-        told(rt.println(RefusedFile {
+/// Tells why a file is refused.
+fn refuse(rt: &HostRuntime, path: &str, file: FileKind, bytes: &[u8], fault: LoadFault) -> Stop {
+    told(match fault {
+        LoadFault::Refused(fault) => rt.println(RefusedFile {
             path,
-            file: FileKind::Wires,
+            file,
             bytes,
             fault,
-        }))
+        }),
+        LoadFault::NoMemory => rt.println(NoMemory { path }),
     })
 }
 
@@ -149,9 +117,21 @@ fn check(rt: &HostRuntime, units_path: &str, wires_path: &str) -> Result<(), Sto
     let units = read_file(rt, units_path)?;
     let wires = read_file(rt, wires_path)?;
     let mut rig = FileRig::new(rt.alloc());
-    let most = take_units(rt, units_path, units.as_slice(), &mut rig)?;
+    let most = load_units(&units, &mut rig).map_err(|fault| refuse(
+        rt,
+        units_path,
+        FileKind::Units,
+        &units,
+        fault,
+    ))?;
     let mut wiring = Wiring::new();
-    take_wires(rt, wires_path, wires.as_slice(), &rig, &mut wiring)?;
+    load_wires(&wires, &rig, &mut wiring).map_err(|fault| refuse(
+        rt,
+        wires_path,
+        FileKind::Wires,
+        &wires,
+        fault.into(),
+    ))?;
     println!(rt; "cap = {most}")?;
     print_units(rt, &rig)?;
     print_wires(rt, &rig, &wiring)?;

@@ -235,12 +235,8 @@ const LONG_WIRES: [Long; 15] = [
 ];
 
 fn written(heap: Global, long: &Long) -> Result<Vec<u8>, AllocError> {
-    let mut text = joined(heap, &[long.before])?;
-    for _ in 0..long.times {
-        text.extend_from_slice(long.part)?;
-    }
-    text.extend_from_slice(long.after)?;
-    Ok(text)
+    let middle = long.part.repeat(heap, long.times)?;
+    joined(heap, &[long.before, &middle, long.after])
 }
 
 fn check_long<D: Destination>(
@@ -307,9 +303,7 @@ const VALUES_IN_WIRES: [Around; 6] = [
 
 fn around_values(heap: Global, before: &[u8], after: &[u8]) -> Result<Vec<u8>, AllocError> {
     let mut text = joined(heap, &[before])?;
-    for byte in 0..=255u8 {
-        text.push(byte)?;
-    }
+    text.extend(0..=255u8)?;
     text.extend_from_slice(after)?;
     Ok(text)
 }

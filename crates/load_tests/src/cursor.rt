@@ -1,5 +1,5 @@
 // A cursor by itself: which line it gives, and where it stands after each call.
-use super::told::{Told, joined, refused, sixteen};
+use super::told::{Told, Wires, joined, no_wires, refused, sixteen};
 use file_rig::table::FileRig;
 use files::cursor::Cursor;
 use lines::fault::{FileFault, LineFault};
@@ -33,11 +33,23 @@ fn begun(heap: Global, first: &[u8], lines: &[Line], stop: &Stop) -> Result<Vec<
 
 // What a cursor reads lines for.
 trait Reader {
+    // A first line that is read.
+    const FIRST: &'static [u8];
+
+    // Whether the first line is read, and as what it says.
+    fn heading(cursor: &mut Cursor<'_>) -> bool;
+
     // The name that the next line has, which later lines are read against; none at the end of the file.
     fn next<'a>(&mut self, cursor: &mut Cursor<'a>) -> Result<Option<&'a [u8]>, FileFault>;
 }
 
 impl Reader for FileRig {
+    const FIRST: &'static [u8] = b"UNITS,1,9\n";
+
+    fn heading(cursor: &mut Cursor<'_>) -> bool {
+        cursor.units_heading() == Ok(9)
+    }
+
     fn next<'a>(&mut self, cursor: &mut Cursor<'a>) -> Result<Option<&'a [u8]>, FileFault> {
         let Some(line) = cursor.next_unit(self).transpose()? else {
             return Ok(None);
@@ -47,13 +59,15 @@ impl Reader for FileRig {
     }
 }
 
-// The units between which wires are read.
-#[derive(Drop)]
-struct Units(FileRig);
+impl Reader for Wires {
+    const FIRST: &'static [u8] = b"WIRES,1\n";
 
-impl Reader for Units {
+    fn heading(cursor: &mut Cursor<'_>) -> bool {
+        cursor.wires_heading() == Ok(())
+    }
+
     fn next<'a>(&mut self, cursor: &mut Cursor<'a>) -> Result<Option<&'a [u8]>, FileFault> {
-        let line = cursor.next_wire(&self.0).transpose()?;
+        let line = cursor.next_wire(&self.rig).transpose()?;
         Ok(line.map(|line| line.target().name))
     }
 }
@@ -79,15 +93,29 @@ fn check_lines<'a, R: Reader>(
         at = at.saturating_add(text.len());
     }
     assert_eq!(rt; place(cursor), (line, at), "{after:?}");
-    match reader.next(cursor) {
-        Ok(Some(_)) => return Err(Fail::new("a line too many")),
-        Ok(None) => assert_eq!(rt; None, told, "{after:?}"),
-        Err(fault) => assert_eq!(rt; Some(Code::from(fault)), told, "{after:?}"),
-    }
+    let last = reader.next(cursor);
+    assert!(rt; !matches!(last, Ok(Some(_))), "{after:?}");
+    assert_eq!(rt; last.err().map(Code::from), told, "{after:?}");
     assert_eq!(rt; place(cursor), (line, end), "{after:?}");
     assert!(rt; matches!(reader.next(cursor), Ok(None)), "{after:?}");
     assert_eq!(rt; place(cursor), (line, end), "{after:?}");
     Ok(())
+}
+
+// A cursor over a first line, the first few of some lines, and what follows them.
+fn check_walk<R: Reader>(
+    rt: &impl Abort,
+    heap: Global,
+    reader: &mut R,
+    lines: &[Line],
+    stop: &Stop,
+) -> Result<(), Fail> {
+    let file = begun(heap, R::FIRST, lines, stop)?;
+    let mut cursor = Cursor::new(&file);
+    assert_eq!(rt; place(&cursor), (1, 0));
+    assert!(rt; R::heading(&mut cursor));
+    assert_eq!(rt; place(&cursor), (2, R::FIRST.len()));
+    check_lines(rt, reader, &mut cursor, lines, stop, file.len())
 }
 
 // Lines of a units file, with their names.
@@ -116,13 +144,8 @@ const UNITS_STOPS: [Stop; 12] = [
 #[test]
 fn a_cursor_over_units(rt: HostRuntime) -> Result<(), Fail> {
     for stop in &UNITS_STOPS {
-        let file = begun(rt.alloc(), b"UNITS,1,9\n", &UNITS, stop)?;
-        let mut cursor = Cursor::new(&file);
-        assert_eq!(rt; place(&cursor), (1, 0));
-        assert_eq!(rt; cursor.units_heading(), Ok(9));
-        assert_eq!(rt; place(&cursor), (2, 10));
         let mut rig = FileRig::new(rt.alloc());
-        check_lines(&rt, &mut rig, &mut cursor, &UNITS, stop, file.len())?;
+        check_walk(&rt, rt.alloc(), &mut rig, &UNITS, stop)?;
         assert_eq!(rt; rig.units(), stop.0);
     }
     Ok(())
@@ -149,14 +172,9 @@ const WIRES_STOPS: [Stop; 9] = [
 
 #[test]
 fn a_cursor_over_wires(rt: HostRuntime) -> Result<(), Fail> {
-    let mut units = Units(sixteen(rt.alloc()));
+    let mut wires = no_wires(rt.alloc());
     for stop in &WIRES_STOPS {
-        let file = begun(rt.alloc(), b"WIRES,1\n", &WIRES, stop)?;
-        let mut cursor = Cursor::new(&file);
-        assert_eq!(rt; place(&cursor), (1, 0));
-        assert_eq!(rt; cursor.wires_heading(), Ok(()));
-        assert_eq!(rt; place(&cursor), (2, 8));
-        check_lines(&rt, &mut units, &mut cursor, &WIRES, stop, file.len())?;
+        check_walk(&rt, rt.alloc(), &mut wires, &WIRES, stop)?;
     }
     Ok(())
 }

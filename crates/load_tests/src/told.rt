@@ -101,11 +101,7 @@ pub(crate) const NOT_NUMBERS: [&[u8]; 30] = [
 
 /// The parts of a text, joined.
 pub(crate) fn joined(heap: Global, parts: &[&[u8]]) -> Result<Vec<u8>, AllocError> {
-    let mut text = Vec::new(heap);
-    for part in parts {
-        text.extend_from_slice(part)?;
-    }
-    Ok(text)
+    parts.concat(heap)
 }
 
 /// What files are loaded into: a rig by units files, a wiring by wires files.
@@ -124,10 +120,10 @@ impl Destination for FileRig {
     const ONE: &'static [u8] = b"UNITS,1,9\nK,old,1\n";
 
     fn load(&mut self, file: &[u8]) -> Result<Told, Fail> {
-        let Err(fault) = load_units(file, self) else {
-            return Ok(None);
-        };
-        Ok(Some(fault.code().ok_or("no memory")?))
+        let told = load_units(file, self)
+            .err()
+            .map(|fault| fault.code().ok_or("no memory"));
+        Ok(told.transpose()?)
     }
 
     fn count(&self) -> usize {

@@ -242,18 +242,6 @@ fn wires_as_their_lines_say(rt: HostRuntime) -> Result<(), Fail> {
     Ok(())
 }
 
-// Lines for each input of a unit, from the output of the same number of tank, before and after the unit's name.
-const TO_EACH: [(&[u8], &[u8]); 8] = [
-    (b"W,tank,0,", b",0\n"),
-    (b"W,tank,1,", b",1\n"),
-    (b"W,tank,2,", b",2\n"),
-    (b"W,tank,3,", b",3\n"),
-    (b"W,tank,4,", b",4\n"),
-    (b"W,tank,5,", b",5\n"),
-    (b"W,tank,6,", b",6\n"),
-    (b"W,tank,7,", b",7\n"),
-];
-
 const NAMES: [&[u8]; 16] = [
     b"used",
     b"tank",
@@ -277,9 +265,11 @@ const NAMES: [&[u8]; 16] = [
 fn all_wired(heap: Global) -> Result<Vec<u8>, AllocError> {
     let mut text = joined(heap, &[b"WIRES,1\n"])?;
     for name in &NAMES {
-        for (before, after) in &TO_EACH {
-            let line = joined(heap, &[before, name, after])?;
-            text.extend_from_slice(&line)?;
+        for port in b'0'..=b'7' {
+            text.extend_from_slice(b"W,tank,")?;
+            text.push(port)?;
+            text.extend_from_slice(&joined(heap, &[b",", name, b","])?)?;
+            text.extend_from_slice(&[port, b'\n'])?;
         }
     }
     Ok(text)

@@ -1,14 +1,9 @@
 // A load that ends for want of memory, in words.
-use std::fmt;
+use thiserror::Error;
 
 /// There is no memory for the units of the file at this path.
-#[derive(Clone, Copy)]
+#[derive(Clone, Copy, Debug, Error)]
+#[error("load refused: no memory for the units of {path}")]
 pub struct NoMemory<'a> {
     pub path: &'a str,
-}
-
-impl fmt::Display for NoMemory<'_> {
-    fn fmt<W: fmt::Write>(&self, f: &mut fmt::Formatter<W>) -> fmt::Result {
-        write!(f, "load refused: no memory for the units of {}", self.path)
-    }
 }

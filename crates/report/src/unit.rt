@@ -1,5 +1,4 @@
 // A unit in words.
-use crate::quoted::Excerpt;
 use kinds::design::Design;
 use names::name::Name;
 use std::fmt;
@@ -15,7 +14,7 @@ pub struct UnitText {
 /// As `unit 2 = integrator tank: x 5, lo 0, hi 20, m 100`.
 impl fmt::Display for UnitText {
     fn fmt<W: fmt::Write>(&self, f: &mut fmt::Formatter<W>) -> fmt::Result {
-        let name = Excerpt::bare(self.name.text());
+        let name = self.name;
         write!(f, "unit {} = ", self.number)?;
         match self.design {
             Design::Integrator { x, lo, hi, m } => {

@@ -1,5 +1,4 @@
 // A wire in words.
-use crate::quoted::Excerpt;
 use names::name::Name;
 use std::fmt;
 
@@ -13,8 +12,7 @@ pub struct EndText {
 /// As `draw.0`.
 impl fmt::Display for EndText {
     fn fmt<W: fmt::Write>(&self, f: &mut fmt::Formatter<W>) -> fmt::Result {
-        let name = Excerpt::bare(self.name.text());
-        write!(f, "{name}.{}", self.port)
+        write!(f, "{}.{}", self.name, self.port)
     }
 }
 

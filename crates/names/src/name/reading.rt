@@ -1,10 +1,10 @@
-ghost use Rattle.std.specs.Prelude.{◌≡◌, true, false, Decides, MatchOption};
+ghost use Rattle.std.specs.Prelude.{◌≡◌, true, false, Decides, Some, MatchOption};
 ghost use Rattle.names.specs.Naming.{is_name, is_name_byte, all_name_bytes};
 ghost use Rattle.names.specs.Names.{text_of};
 
 use super::Name;
 use arrayvec::ArrayString;
-use std::str;
+use std::{fmt, str};
 
 /// Whether a byte may stand in a name.
 fn is_name_byte(b: u8) -> bool
@@ -54,5 +54,14 @@ impl Name {
         ensures { Decides result (text_of self.now ≡ text.now) }
     {
         self.text() == text
+    }
+}
+
+/// The text of the name.
+impl fmt::Display for Name {
+    ghost output = { λ name. Some (text_of name) };
+
+    fn fmt<W: fmt::Write>(&self, f: &mut fmt::Formatter<W>) -> fmt::Result {
+        f.write_str(self.text.as_str())
     }
 }
