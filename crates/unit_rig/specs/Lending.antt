@@ -1,4 +1,5 @@
 -- A unit of a list lent to a function that makes one call of it.
+-- Model and label stand apart, here and in contracts: this file could name them together only by importing the trait, which imports it.
 use Rattle.std.specs.Prelude.{◌≡◌, ℕ, List, map, Result}
 use Rattle.std.specs.Fn.{Once, FnOnceReturnsAt, FnOnceReturnsAtMut}
 use Rattle.std.specs.Borrow.{Bor, MutBor}
