@@ -1,7 +1,9 @@
 -- Units added line by line.
 use Rattle.std.proofs.Common.{◌≡◌, ℕ, ◌+◌, List, [], ◌∷◌, ◌++◌, length, Some, Ok, Err, Option, Result, sym, refl, ap, ◌∙◌, arith}
 use Rattle.std.proofs.lemmas.List.{map_push}
+use Rattle.std.proofs.lemmas.Bool.{true≢false}
 use Rattle.kinds.specs.declared.design.Design.{Design}
+use Rattle.kinds.specs.Designs.{design_fault}
 use Rattle.file_rig.specs.declared.table.FileRig.{FileRig}
 use Rattle.file_rig.specs.declared.table.fault.AddFault.{AddFault}
 use Rattle.file_rig.specs.declared.table.fault.AddFault.TheVariants.{TableFull, BadName, NameUsed, BadDesign, NoMemory}
@@ -9,12 +11,14 @@ use Rattle.file_rig.specs.Table.{names_of}
 use Rattle.file_rig.specs.Adding.{Added, new_unit}
 use Rattle.lines.specs.declared.fault.FileFault.{FileFault}
 use Rattle.lines.specs.declared.unit.UnitLine.{UnitLine}
+use Rattle.lines.specs.Known.{unit_named}
 use Rattle.lines.specs.UnitLines.{UnitSaid, unit_line, unit_said}
 use Rattle.lines.proofs.Naming.{found_is}
 use Rattle.files.specs.Positions.{Position, ahead, passed}
 use Rattle.files.specs.Reading.{answer_at, unit_given}
 use Rattle.grammar.specs.Texts.{ProperUnit}
 use Rattle.grammar.specs.Files.{onward, lines_from, judge_unit, names_said}
+use Rattle.grammar.proofs.Accepted.{not_some}
 use Rattle.grammar.proofs.Whole.{lines_more}
 use Rattle.load.specs.Loaded.{HoldsUnits}
 use Rattle.load.specs.Filling.{OneUnitMore}
@@ -24,10 +28,10 @@ use Rattle.load.proofs.Reading.{LineAhead, line_ahead, some_ahead}
 pub only_memory : (before after : FileRig) (u : UnitSaid) (name : List ℕ) (d : Design) → name ≡ u.name → d ≡ u.design → ProperUnit (names_of before) u
     → (e : AddFault) → Added before name d (Err e) after → (e ≡ NoMemory → ⊥) → ⊥
 only_memory before after u name d en ed p TableFull a not = omega (arith, a.0, p.room)
-only_memory before after u name d en ed p BadName a not = let b = a.1 in let t = p.name in let z : ◌≡◌ {A = ℕ} 0 1 = cc in omega arith
+only_memory before after u name d en ed p BadName a not = let b = a.1 in let t = p.name in true≢false cc
 only_memory before after u name d en ed p NameUsed a not =
-    let f = found_is name (names_of before) (Some a.1.0) a.1.1 in let t = p.new in let z : ◌≡◌ {A = ℕ} 0 1 = cc in omega arith
-only_memory before after u name d en ed p (BadDesign f) a not = let b = a.1 in let t = p.ranges in let z : ◌≡◌ {A = ℕ} 0 1 = cc in omega arith
+    not_some (sym p.new ∙ (ap (unit_named (names_of before)) (sym en) ∙ sym (found_is name (names_of before) (Some a.1.0) a.1.1)))
+only_memory before after u name d en ed p (BadDesign f) a not = not_some (sym p.ranges ∙ (ap design_fault (sym ed) ∙ a.1))
 only_memory before after u name d en ed p NoMemory a not = not refl
 
 -- one unit more in the rig, and one more among those that the lines said

@@ -20,6 +20,7 @@ use Rattle.files.specs.Positions.{Position, ahead, passed}
 use Rattle.files.specs.Reading.{answer_at, WireGiven}
 use Rattle.grammar.specs.Texts.{ProperWire}
 use Rattle.grammar.specs.Files.{fault_at, onward, lines_from, is_port, supplier, if_unwired, once_only, judge_wire}
+use Rattle.grammar.proofs.Accepted.{not_some}
 use Rattle.grammar.proofs.Whole.{lines_more}
 use Rattle.load.specs.Loaded.{HoldsWires}
 use Rattle.load.proofs.Reading.{LineAhead, line_ahead, some_ahead}
@@ -31,11 +32,11 @@ below_in ns name true u rec e = let z : 0 ≡ u = cc in omega arith
 below_in ns name false u rec e = by_rest (unit_named ns name) rec e
   where
     by_rest : (o : Option ℕ) → ((v : ℕ) → o ≡ Some v → v < length ns) → option_map suc o ≡ Some u → u < suc (length ns)
-    by_rest None r e = absurd (let z : ◌≡◌ {A = ℕ} 0 1 = cc in omega arith)
+    by_rest None r e = not_some e
     by_rest (Some v) r e = let z : suc v ≡ u = cc in let l = r v refl in omega arith
 
 named_below : (ns : List (List ℕ)) (name : List ℕ) (u : ℕ) → unit_named ns name ≡ Some u → u < length ns
-named_below [] name u e = absurd (let z : ◌≡◌ {A = ℕ} 0 1 = cc in omega arith)
+named_below [] name u e = not_some e
 named_below (n ∷ ns) name u e = below_in ns name (same_text n name) u (named_below ns name) e
 
 -- an end that a line names, found by its name, is within 16 units of 8 ports
@@ -98,7 +99,7 @@ module _ (w : Wire) (q : Port) where
     where
       on_test : (b : Bool) → (supplier ws q ≡ None → supplier (ws ++ w ∷ []) q ≡ Some w.from) → cond b (Some v.from) (supplier ws q) ≡ None
           → cond b (Some v.from) (supplier (ws ++ w ∷ []) q) ≡ Some w.from
-      on_test true rec e = absurd (let z : ◌≡◌ {A = ℕ} 0 1 = cc in omega arith)
+      on_test true rec e = not_some (sym e)
       on_test false rec e = rec e
 
   supplier_there : (ws : List Wire) → is_port w.to q ≡ false → supplier (ws ++ w ∷ []) q ≡ supplier ws q

@@ -12,6 +12,11 @@ use Rattle.files.specs.Positions.{Position, start, ahead, front_of, passed, stop
 use Rattle.files.specs.Heading.{bad_first, heading_in, heading_at, after_first, after_heading}
 use Rattle.files.specs.Reading.{on_line, answer_to, answer_at, after_front, after_at}
 use Rattle.grammar.specs.Files.{fault_at, onward, lines_from, headed, after_first as body_after}
+use Rattle.grammar.proofs.Accepted.{not_ok, not_some}
+
+-- a line that is refused is not a line that was read
+not_given : {T E P : Type 0} {e : E} {x : T} → ◌≡◌ {A = Option (Result T E)} (Some (Err e)) (Some (Ok x)) → P
+not_given e = let z : ◌≡◌ {A = ℕ} 0 1 = cc in absurd (omega arith)
 
 -- past a line the later lines are ahead
 ahead_passed : (p : Position) (text : List ℕ) (later : List (List ℕ)) → 1 ≤ length later → ahead p ≡ text ∷ later → ahead (passed p (length text)) ≡ later
@@ -34,14 +39,14 @@ pub record LineAhead {T : Type 0} (judge : List ℕ → Result T LineFault) (p :
 module _ {T : Type 0} (judge : List ℕ → Result T LineFault) where
   judged_ok : (l : ℕ) (r : Result T LineFault) (x : T) → Some (on_line l r) ≡ Some (Ok x) → r ≡ Ok x
   judged_ok l (Ok y) x e = cc
-  judged_ok l (Err f) x e = absurd (let z : ◌≡◌ {A = ℕ} 0 1 = cc in omega arith)
+  judged_ok l (Err f) x e = not_given e
 
   no_line : (l : ℕ) (b : Bool) (x : T) → answer_to judge l (cond b None (Some (Err Letter))) ≡ Some (Ok x) → ⊥
-  no_line l true x e = let z : ◌≡◌ {A = ℕ} 0 1 = cc in omega arith
-  no_line l false x e = let z : ◌≡◌ {A = ℕ} 0 1 = cc in omega arith
+  no_line l true x e = not_some e
+  no_line l false x e = not_given e
 
   line_in : (p : Position) (x : T) (ps : List (List ℕ)) → ahead p ≡ ps → answer_to judge p.line (front_of ps) ≡ Some (Ok x) → LineAhead judge p x
-  line_in p x [] e a = absurd (let z : ◌≡◌ {A = ℕ} 0 1 = cc in omega arith)
+  line_in p x [] e a = not_some a
   line_in p x (rest ∷ []) e a = absurd (no_line p.line (eqb (length rest) 0) x a)
   line_in p x (text ∷ next ∷ later) e a =
       let j = judged_ok p.line (judge text) x a in
@@ -58,15 +63,15 @@ module _ {T : Type 0} (judge : List ℕ → Result T LineFault) where
 -- a line that cannot be read ends the file there
 module _ {T : Type 0} (judge : List T → List ℕ → Result T LineFault) (said : List T) (l : ℕ) (f : FileFault) where
   rest_refused : (b : Bool) → answer_to (judge said) l (cond b None (Some (Err Letter))) ≡ Some (Err f) → cond b (Ok said) (Err (fault_at l Letter)) ≡ Err f
-  rest_refused true e = absurd (let z : ◌≡◌ {A = ℕ} 0 1 = cc in omega arith)
+  rest_refused true e = not_some e
   rest_refused false e = cc
 
   line_refused : (r : Result T LineFault) (next : T → Result (List T) FileFault) → Some (on_line l r) ≡ Some (Err f) → onward l r next ≡ Err f
-  line_refused (Ok x) next e = absurd (let z : ◌≡◌ {A = ℕ} 0 1 = cc in omega arith)
+  line_refused (Ok x) next e = not_given (sym e)
   line_refused (Err d) next e = cc
 
   refused_at : (ps : List (List ℕ)) → answer_to (judge said) l (front_of ps) ≡ Some (Err f) → lines_from judge l said ps ≡ Err f
-  refused_at [] e = absurd (let z : ◌≡◌ {A = ℕ} 0 1 = cc in omega arith)
+  refused_at [] e = not_some e
   refused_at (rest ∷ []) e = rest_refused (eqb (length rest) 0) e
   refused_at (text ∷ next ∷ later) e = line_refused (judge said text) (λ x. lines_from judge (l + 1) (said ++ x ∷ []) (next ∷ later)) e
 
@@ -86,8 +91,8 @@ fewer_left p q n e h =
 -- the first line: what follows it, or what is wrong with it
 module _ {X T : Type 0} (head : List ℕ → Option X) (body : X → List (List ℕ) → Result T FileFault) where
   head_none : (b : Bool) (x : X) → heading_in head 1 (cond b None (Some (Err Letter))) ≡ Ok x → ⊥
-  head_none true x e = let z : ◌≡◌ {A = ℕ} 0 1 = cc in omega arith
-  head_none false x e = let z : ◌≡◌ {A = ℕ} 0 1 = cc in omega arith
+  head_none true x e = not_ok e
+  head_none false x e = not_ok e
 
   head_fault : (b : Bool) (f : FileFault) → heading_in head 1 (cond b None (Some (Err Letter))) ≡ Err f → ◌≡◌ {A = Result T FileFault} (Err (bad_first 1)) (Err f)
   head_fault true f e = cc
@@ -95,7 +100,7 @@ module _ {X T : Type 0} (head : List ℕ → Option X) (body : X → List (List 
 
   after_none : (o : Option X) (f : FileFault) (ps : List (List ℕ)) → ok_or o (bad_first 1) ≡ Err f → body_after o (λ x. body x ps) ≡ Err f
   after_none None f ps e = cc
-  after_none (Some x) f ps e = absurd (let z : ◌≡◌ {A = ℕ} 0 1 = cc in omega arith)
+  after_none (Some x) f ps e = not_ok (sym e)
 
   refused_in : (ps : List (List ℕ)) (f : FileFault) → heading_in head 1 (front_of ps) ≡ Err f → headed head body ps ≡ Err f
   refused_in [] f e = cc
@@ -106,7 +111,7 @@ module _ {X T : Type 0} (head : List ℕ → Option X) (body : X → List (List 
   head_refused bytes f e = refused_in (parts 10 bytes) f (sym e)
 
   some_head : (o : Option X) (x : X) → ok_or o (bad_first 1) ≡ Ok x → o ≡ Some x
-  some_head None x e = absurd (let z : ◌≡◌ {A = ℕ} 0 1 = cc in omega arith)
+  some_head None x e = not_ok e
   some_head (Some y) x e = cc
 
   -- the lines after the first, and where the cursor stands then
@@ -116,7 +121,7 @@ module _ {X T : Type 0} (head : List ℕ → Option X) (body : X → List (List 
     pub file : headed head body (parts 10 bytes) ≡ body x (ahead (passed (start bytes) (length first)))
 
   read_in_lem : (bytes : List ℕ) (ps : List (List ℕ)) (x : X) → ahead (start bytes) ≡ ps → heading_in head 1 (front_of ps) ≡ Ok x → Headed bytes x
-  read_in_lem bytes [] x e a = absurd (let z : ◌≡◌ {A = ℕ} 0 1 = cc in omega arith)
+  read_in_lem bytes [] x e a = not_ok a
   read_in_lem bytes (rest ∷ []) x e a = absurd (head_none (eqb (length rest) 0) x a)
   read_in_lem bytes (text ∷ next ∷ later) x e a =
       let j = some_head (head text) x a in

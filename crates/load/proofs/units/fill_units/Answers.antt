@@ -1,4 +1,4 @@
-use Rattle.std.proofs.Common.{◌≡◌, ◌+◌, [], ◌∷◌, ◌++◌, length, Some, Err, sym, ap, ◌∙◌, subst, rules}
+use Rattle.std.proofs.Common.{◌≡◌, ◌+◌, [], ◌∷◌, ◌++◌, length, Some, Err, sym, ap, ◌∙◌, subst}
 use Rattle.file_rig.specs.Table.{names_of}
 use Rattle.lines.specs.UnitLines.{unit_said, unit_line}
 use Rattle.lines.specs.Headers.{cap_of}

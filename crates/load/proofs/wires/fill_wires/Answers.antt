@@ -1,4 +1,4 @@
-use Rattle.std.proofs.Common.{◌≡◌, [], ◌∷◌, ◌++◌, length, Err, sym, ap, ◌∙◌, rules}
+use Rattle.std.proofs.Common.{◌≡◌, [], ◌∷◌, ◌++◌, length, Err, sym, ap, ◌∙◌}
 use Rattle.file_rig.specs.Table.{names_of}
 use Rattle.lines.specs.Headers.{wires_head}
 use Rattle.files.specs.Positions.{position_of, start, ahead, passed}
