@@ -17,12 +17,11 @@ use Rattle.lines.proofs.Naming.{found_is}
 use Rattle.files.specs.Positions.{Position, ahead, passed}
 use Rattle.files.specs.Reading.{answer_at, unit_given}
 use Rattle.grammar.specs.Texts.{ProperUnit}
-use Rattle.grammar.specs.Files.{onward, lines_from, judge_unit, names_said}
+use Rattle.grammar.specs.Files.{lines_from, judge_unit, names_said}
 use Rattle.grammar.proofs.Accepted.{not_some}
-use Rattle.grammar.proofs.Whole.{lines_more}
 use Rattle.load.specs.Loaded.{HoldsUnits}
 use Rattle.load.specs.Filling.{OneUnitMore}
-use Rattle.load.proofs.Reading.{LineAhead, line_ahead, some_ahead}
+use Rattle.load.proofs.Reading.{LineAhead, line_ahead, lines_on}
 
 -- a proper unit is refused only for want of memory
 pub only_memory : (before after : FileRig) (u : UnitSaid) (name : List ℕ) (d : Design) → name ≡ u.name → d ≡ u.design → ProperUnit (names_of before) u
@@ -49,7 +48,4 @@ unit_ahead known p r answer line er ea e = line_ahead (unit_line known) p (unit_
 -- the lines from a line on, once it is read
 pub units_on : (known : List (List ℕ)) (us : List UnitSaid) (u : UnitSaid) (p : Position) → known ≡ names_said us → (a : LineAhead (unit_line known) p u)
     → lines_from judge_unit p.line us (ahead p) ≡ lines_from judge_unit (p.line + 1) (us ++ u ∷ []) (ahead (passed p (length a.text)))
-units_on known us u p e a =
-    let later = ahead (passed p (length a.text)) in
-    ap (lines_from judge_unit p.line us) a.lines ∙ (lines_more judge_unit p.line us a.text later (some_ahead (passed p (length a.text)))
-    ∙ ap (λ r. onward p.line r (λ x. lines_from judge_unit (p.line + 1) (us ++ x ∷ []) later)) (ap (λ k. unit_line k a.text) (sym e) ∙ a.judged))
+units_on known us u p e a = lines_on judge_unit us a (Ok u) (ap (λ k. unit_line k a.text) (sym e) ∙ a.judged)

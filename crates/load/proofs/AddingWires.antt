@@ -19,11 +19,10 @@ use Rattle.lines.specs.WireLines.{Wire, wire_line, NamedPort, IsEnd, source_said
 use Rattle.files.specs.Positions.{Position, ahead, passed}
 use Rattle.files.specs.Reading.{answer_at, WireGiven}
 use Rattle.grammar.specs.Texts.{ProperWire}
-use Rattle.grammar.specs.Files.{fault_at, onward, lines_from, is_port, supplier, if_unwired, once_only, judge_wire}
+use Rattle.grammar.specs.Files.{fault_at, lines_from, is_port, supplier, if_unwired, once_only, judge_wire}
 use Rattle.grammar.proofs.Accepted.{not_some}
-use Rattle.grammar.proofs.Whole.{lines_more}
 use Rattle.load.specs.Loaded.{HoldsWires}
-use Rattle.load.proofs.Reading.{LineAhead, line_ahead, some_ahead}
+use Rattle.load.proofs.Reading.{LineAhead, line_ahead, lines_on}
 
 -- a unit that has a name is there
 below_in : (ns : List (List ℕ)) (name : List ℕ) (b : Bool) (u : ℕ) → ((v : ℕ) → unit_named ns name ≡ Some v → v < length ns)
@@ -73,20 +72,12 @@ wire_ahead known p r answer line er ea g =
     given_in known p line (answer_at (wire_line known) p) refl (subst (λ x. WireGiven known x (answer_at (wire_line known) p)) (er ∙ ap Some ea) g)
 
 -- the lines from a line on, once it is read
-wires_at : (known : List (List ℕ)) (ws : List Wire) (w : Wire) (p : Position) → (a : LineAhead (wire_line known) p w)
-    → lines_from (judge_wire known) p.line ws (ahead p)
-    ≡ onward p.line (if_unwired w (supplier ws w.to)) (λ x. lines_from (judge_wire known) (p.line + 1) (ws ++ x ∷ []) (ahead (passed p (length a.text))))
-wires_at known ws w p a =
-    let later = ahead (passed p (length a.text)) in
-    ap (lines_from (judge_wire known) p.line ws) a.lines ∙ (lines_more (judge_wire known) p.line ws a.text later (some_ahead (passed p (length a.text)))
-    ∙ ap (λ r. onward p.line (once_only ws r) (λ x. lines_from (judge_wire known) (p.line + 1) (ws ++ x ∷ []) later)) a.judged)
-
 module _ (known : List (List ℕ)) (ws : List Wire) (w : Wire) (p : Position) (a : LineAhead (wire_line known) p w) where
   pub wires_on : supplier ws w.to ≡ None → lines_from (judge_wire known) p.line ws (ahead p) ≡ lines_from (judge_wire known) (p.line + 1) (ws ++ w ∷ []) (ahead (passed p (length a.text)))
-  wires_on e = wires_at known ws w p a ∙ ap (λ o. onward p.line (if_unwired w o) (λ x. lines_from (judge_wire known) (p.line + 1) (ws ++ x ∷ []) (ahead (passed p (length a.text))))) e
+  wires_on e = lines_on (judge_wire known) ws a (Ok w) (ap (once_only ws) a.judged ∙ ap (if_unwired w) e)
 
   pub wires_twice : (q : Port) → supplier ws w.to ≡ Some q → lines_from (judge_wire known) p.line ws (ahead p) ≡ Err (fault_at p.line WiredTwice)
-  wires_twice q e = wires_at known ws w p a ∙ ap (λ o. onward p.line (if_unwired w o) (λ x. lines_from (judge_wire known) (p.line + 1) (ws ++ x ∷ []) (ahead (passed p (length a.text))))) e
+  wires_twice q e = lines_on (judge_wire known) ws a (Err WiredTwice) (ap (once_only ws) a.judged ∙ ap (if_unwired w) e)
 
 -- one wire more
 module _ (w : Wire) (q : Port) where

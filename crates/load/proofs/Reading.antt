@@ -13,6 +13,7 @@ use Rattle.files.specs.Heading.{bad_first, heading_in, heading_at, after_first, 
 use Rattle.files.specs.Reading.{on_line, answer_to, answer_at, after_front, after_at}
 use Rattle.grammar.specs.Files.{fault_at, onward, lines_from, headed, after_first as body_after}
 use Rattle.grammar.proofs.Accepted.{not_ok, not_some}
+use Rattle.grammar.proofs.Whole.{lines_more}
 
 -- a line that is refused is not a line that was read
 not_given : {T E P : Type 0} {e : E} {x : T} → ◌≡◌ {A = Option (Result T E)} (Some (Err e)) (Some (Ok x)) → P
@@ -81,6 +82,15 @@ lines_refused judge said p f e = refused_at judge said p.line f (ahead p) (sym e
 
 pub some_ahead : (p : Position) → 1 ≤ length (ahead p)
 some_ahead p = some_part 10 (drop p.at p.bytes)
+
+-- the lines from a line on, by what that line is judged to be after those before it
+pub lines_on : {T : Type 0} (judge : List T → List ℕ → Result T LineFault) (before : List T) {alone : List ℕ → Result T LineFault} {p : Position} {x : T} (a : LineAhead alone p x)
+    (r : Result T LineFault) → judge before a.text ≡ r
+    → lines_from judge p.line before (ahead p) ≡ onward p.line r (λ y. lines_from judge (p.line + 1) (before ++ y ∷ []) (ahead (passed p (length a.text))))
+lines_on judge before {p} a r e =
+    let later = ahead (passed p (length a.text)) in
+    ap (lines_from judge p.line before) a.lines ∙ (lines_more judge p.line before a.text later (some_ahead (passed p (length a.text)))
+    ∙ ap (λ o. onward p.line o (λ y. lines_from judge (p.line + 1) (before ++ y ∷ []) later)) e)
 
 -- fewer bytes are left past a line
 pub fewer_left : (p q : Position) (n : ℕ) → q ≡ passed p n → q.at ≤ length q.bytes → length q.bytes - q.at < length p.bytes - p.at
