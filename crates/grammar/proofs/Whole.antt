@@ -125,7 +125,7 @@ cap_said m n (Ok vs) us e =
     let s : ◌≡◌ {A = UnitsSaid} (record { most = m; units = vs }) (record { most = n; units = us }) = cc in (ap (λ v. v.most) s, ap (λ v. Ok v.units) s)
 cap_said m n (Err f) us e = not_ok e
 
-abbrev units_after : ℕ → List (List ℕ) → Result UnitsSaid FileFault
+abbrev pub units_after : ℕ → List (List ℕ) → Result UnitsSaid FileFault
 units_after n lines = with_cap n (lines_from judge_unit 2 [] lines)
 
 -- a units file is read exactly where it is the one text of its cap and units
@@ -150,7 +150,7 @@ module _ (known : List (List ℕ)) where
   abbrev ProperOnce : List Wire → Wire → Type 0
   ProperOnce before w = ProperWire known w × (supplier before w.to ≡ None)
 
-  abbrev wires_after : Unit {0} → List (List ℕ) → Result (List Wire) FileFault
+  abbrev pub wires_after : Unit {0} → List (List ℕ) → Result (List Wire) FileFault
   wires_after _ lines = lines_from (judge_wire known) 2 [] lines
 
   unwired_ok : (v w : Wire) (o : Option Port) → if_unwired v o ≡ Ok w → (v ≡ w) × (o ≡ None)

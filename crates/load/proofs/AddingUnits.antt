@@ -1,5 +1,5 @@
 -- Units added line by line.
-use Rattle.std.proofs.Common.{◌≡◌, ℕ, ◌+◌, List, [], ◌∷◌, ◌++◌, length, Some, Ok, Err, Option, Result, sym, refl, ap, ◌∙◌, arith}
+use Rattle.std.proofs.Common.{◌≡◌, ℕ, ◌+◌, List, [], ◌∷◌, ◌++◌, length, Some, Ok, Err, sym, refl, ap, ◌∙◌, arith}
 use Rattle.std.proofs.lemmas.List.{map_push}
 use Rattle.std.proofs.lemmas.Bool.{true≢false}
 use Rattle.kinds.specs.declared.design.Design.{Design}
@@ -9,19 +9,16 @@ use Rattle.file_rig.specs.declared.table.fault.AddFault.{AddFault}
 use Rattle.file_rig.specs.declared.table.fault.AddFault.TheVariants.{TableFull, BadName, NameUsed, BadDesign, NoMemory}
 use Rattle.file_rig.specs.Table.{names_of}
 use Rattle.file_rig.specs.Adding.{Added, new_unit}
-use Rattle.lines.specs.declared.fault.FileFault.{FileFault}
-use Rattle.lines.specs.declared.unit.UnitLine.{UnitLine}
 use Rattle.lines.specs.Known.{unit_named}
-use Rattle.lines.specs.UnitLines.{UnitSaid, unit_line, unit_said}
+use Rattle.lines.specs.UnitLines.{UnitSaid, unit_line}
 use Rattle.lines.proofs.Naming.{found_is}
 use Rattle.files.specs.Positions.{Position, ahead, passed}
-use Rattle.files.specs.Reading.{answer_at, unit_given}
 use Rattle.grammar.specs.Texts.{ProperUnit}
 use Rattle.grammar.specs.Files.{lines_from, judge_unit, names_said}
 use Rattle.grammar.proofs.Accepted.{not_some}
 use Rattle.load.specs.Loaded.{HoldsUnits}
 use Rattle.load.specs.Filling.{OneUnitMore}
-use Rattle.load.proofs.Reading.{LineAhead, line_ahead, lines_on}
+use Rattle.load.proofs.Reading.{LineAhead, lines_on}
 
 -- a proper unit is refused only for want of memory
 pub only_memory : (before after : FileRig) (u : UnitSaid) (name : List ℕ) (d : Design) → name ≡ u.name → d ≡ u.design → ProperUnit (names_of before) u
@@ -39,11 +36,6 @@ held_more before after us u h m = record {
   units = m.units ∙ (ap (λ xs. xs ++ new_unit u.design ∷ []) h.units ∙ sym (map_push (λ x. new_unit x.design) us u));
   names = m.names ∙ (ap (λ xs. xs ++ u.name ∷ []) h.names ∙ sym (map_push (λ x. x.name) us u));
 }
-
--- the line that a call gave out
-pub unit_ahead : (known : List (List ℕ)) (p : Position) (r : Option (Result UnitLine FileFault)) (answer : Result UnitLine FileFault) (line : UnitLine)
-    → r ≡ Some answer → answer ≡ Ok line → unit_given r ≡ answer_at (unit_line known) p → LineAhead (unit_line known) p (unit_said line)
-unit_ahead known p r answer line er ea e = line_ahead (unit_line known) p (unit_said line) (sym (ap unit_given (er ∙ ap Some ea)) ∙ e)
 
 -- the lines from a line on, once it is read
 pub units_on : (known : List (List ℕ)) (us : List UnitSaid) (u : UnitSaid) (p : Position) → known ≡ names_said us → (a : LineAhead (unit_line known) p u)

@@ -66,10 +66,9 @@ given_in known p line None e g = absurd g
 given_in known p line (Some (Ok w)) e g = record { wire = w; names = g; ahead = line_ahead (wire_line known) p w e }
 given_in known p line (Some (Err f)) e g = absurd g
 
-pub wire_ahead : (known : List (List ℕ)) (p : Position) (r : Option (Result WireLine FileFault)) (answer : Result WireLine FileFault) (line : WireLine)
-    → r ≡ Some answer → answer ≡ Ok line → WireGiven known r (answer_at (wire_line known) p) → WireAhead known p line
-wire_ahead known p r answer line er ea g =
-    given_in known p line (answer_at (wire_line known) p) refl (subst (λ x. WireGiven known x (answer_at (wire_line known) p)) (er ∙ ap Some ea) g)
+pub wire_ahead : {known : List (List ℕ)} {p : Position} {line : WireLine} {r : Option (Result WireLine FileFault)} → r ≡ Some (Ok line)
+    → WireGiven known r (answer_at (wire_line known) p) → WireAhead known p line
+wire_ahead {known} {p} {line} e g = given_in known p line (answer_at (wire_line known) p) refl (subst (λ x. WireGiven known x (answer_at (wire_line known) p)) e g)
 
 -- the lines from a line on, once it is read
 module _ (known : List (List ℕ)) (ws : List Wire) (w : Wire) (p : Position) (a : LineAhead (wire_line known) p w) where

@@ -7,16 +7,25 @@ use Rattle.files.specs.Heading.{heading_at, after_heading}
 use Rattle.files.specs.Reading.{answer_at, unit_given}
 use Rattle.grammar.specs.Files.{with_cap, lines_from, judge_unit}
 use Rattle.grammar.proofs.Lines.{unit_proper}
-use Rattle.grammar.proofs.Whole.{units_law}
+use Rattle.grammar.proofs.Whole.{units_after, units_law}
 use Rattle.load.specs.Filling.{UnitsFilled}
-use Rattle.load.proofs.Reading.{err_given, fewer_left, lines_refused, head_refused, head_read}
-use Rattle.load.proofs.AddingUnits.{unit_ahead, held_more, units_on}
+use Rattle.load.proofs.Reading.{LineAhead, line_ahead, err_given, fewer_left, lines_refused, head_refused, head_read}
+use Rattle.load.proofs.AddingUnits.{held_more, units_on}
 use Rattle.load.proofs.units.fill_units.Goals as goal
+use Rattle.load.proofs.units.fill_units.Goals.{In_ok-line}
+
+-- the line that was read
+line_read : (c : In_ok-line) → LineAhead (unit_line (names_of c.loop-answer.rig)) (position_of c.loop-answer.cursor) (unit_said c.in_ok-line.line)
+line_read c = line_ahead _ _ _ (sym (ap unit_given (c.in-Some.is ∙ ap Some c.in_ok-line.was)) ∙ c.next_unit.ensures.answer)
+
+-- the cursor stands past it
+past_line : (c : In_ok-line) → position_of c.next_unit.new.self ≡ passed (position_of c.loop-answer.cursor) (length (line_read c).text)
+past_line c = c.next_unit.ensures.cursor ∙ (line_read c).after
 
 pub returns-in_err-most : goal.returns-in_err-most
 returns-in_err-most c = record {
   filled = subst (λ r. UnitsFilled c.args.bytes.now r c.clear.new.self) (sym (err_given _ _ c.from_residual.ensures.1))
-      (head_refused cap_of (λ n lines. with_cap n (lines_from judge_unit 2 [] lines)) c.args.bytes.now _
+      (head_refused cap_of units_after c.args.bytes.now _
       (sym c.in_err-most.was ∙ (c.units_heading.ensures.answer ∙ ap (heading_at cap_of) c.new-cursor.ensures)));
   grammar = units_law c.args.bytes.now;
 }
@@ -26,7 +35,7 @@ returns-in_err-add_line c =
     let u = unit_said c.in_ok-line.line in
     let us = c.loop-answer.invariant.0 in
     let p = position_of c.loop-answer.cursor in
-    let a = unit_ahead (names_of c.loop-answer.rig) p c.next_unit.result c.in-Some.answer c.in_ok-line.line c.in-Some.is c.in_ok-line.was c.next_unit.ensures.answer in
+    let a = line_read (goal.at.returns-in_err-add_line c).In_ok-line in
     record {
       filled = subst (λ r. UnitsFilled c.args.bytes.now r c.add_line.new.rig) (sym (err_given _ _ c.from_residual-in_err-add_line.ensures.1 ∙ ap (λ e. Err e) c.in_err-add_line.ensures)) (
         c.in_ok-most.most,
@@ -52,7 +61,7 @@ returns-in_err-line c =
 
 pub loop-answer-init : goal.loop-answer-init
 loop-answer-init c =
-    let h = head_read cap_of (λ n lines. with_cap n (lines_from judge_unit 2 [] lines)) c.args.bytes.now c.in_ok-most.most (sym c.in_ok-most.was ∙ (c.units_heading.ensures.answer ∙ ap (heading_at cap_of) c.new-cursor.ensures)) in
+    let h = head_read cap_of units_after c.args.bytes.now c.in_ok-most.most (sym c.in_ok-most.was ∙ (c.units_heading.ensures.answer ∙ ap (heading_at cap_of) c.new-cursor.ensures)) in
     let q : position_of c.units_heading.new.self ≡ passed (start c.args.bytes.now) (length h.first) =
     c.units_heading.ensures.cursor ∙ (ap (after_heading cap_of) c.new-cursor.ensures ∙ h.after) in (
       [],
@@ -62,22 +71,20 @@ loop-answer-init c =
 
 pub add_line-requires : goal.add_line-requires
 add_line-requires c =
-    let a = unit_ahead (names_of c.loop-answer.rig) (position_of c.loop-answer.cursor) c.next_unit.result c.in-Some.answer c.in_ok-line.line c.in-Some.is c.in_ok-line.was c.next_unit.ensures.answer in
+    let a = line_read (goal.at.add_line-requires c).In_ok-line in
     unit_proper (names_of c.loop-answer.rig) a.text (unit_said c.in_ok-line.line) a.judged
 
 pub loop-answer-preserved : goal.loop-answer-preserved
 loop-answer-preserved c =
     let u = unit_said c.in_ok-line.line in
     let us = c.loop-answer.invariant.0 in
-    let a = unit_ahead (names_of c.loop-answer.rig) (position_of c.loop-answer.cursor) c.next_unit.result c.in-Some.answer c.in_ok-line.line c.in-Some.is c.in_ok-line.was c.next_unit.ensures.answer in
-    let q : position_of c.next_unit.new.self ≡ passed (position_of c.loop-answer.cursor) (length a.text) = c.next_unit.ensures.cursor ∙ a.after in (
+    let r = (goal.at.loop-answer-preserved c).In_ok-line in (
       us ++ u ∷ [],
       held_more c.loop-answer.rig c.add_line.new.rig us u c.loop-answer.invariant.1 c.in_ok-add_line.ensures,
-      c.loop-answer.invariant.2 ∙ ap (with_cap c.in_ok-most.most) (units_on (names_of c.loop-answer.rig) us u (position_of c.loop-answer.cursor) c.loop-answer.invariant.1.names a
-          ∙ sym (ap (λ p. lines_from judge_unit p.line (us ++ u ∷ []) (ahead p)) q)),
+      c.loop-answer.invariant.2 ∙ ap (with_cap c.in_ok-most.most) (units_on (names_of c.loop-answer.rig) us u (position_of c.loop-answer.cursor) c.loop-answer.invariant.1.names (line_read r)
+          ∙ sym (ap (λ p. lines_from judge_unit p.line (us ++ u ∷ []) (ahead p)) (past_line r))),
     )
 
 pub loop-answer-smaller : goal.loop-answer-smaller
 loop-answer-smaller c =
-    let a = unit_ahead (names_of c.loop-answer.rig) (position_of c.loop-answer.cursor) c.next_unit.result c.in-Some.answer c.in_ok-line.line c.in-Some.is c.in_ok-line.was c.next_unit.ensures.answer in
-    fewer_left (position_of c.loop-answer.cursor) (position_of c.next_unit.new.self) (length a.text) (c.next_unit.ensures.cursor ∙ a.after) c.next_unit.new.self.within
+    fewer_left (position_of c.loop-answer.cursor) (position_of c.next_unit.new.self) _ (past_line (goal.at.loop-answer-smaller c).In_ok-line) c.next_unit.new.self.within
