@@ -3,6 +3,7 @@ use super::told::{Destination, Told, joined, loaded, no_wires, refused};
 use file_rig::table::FileRig;
 use refusal::Code;
 use std::alloc::{AllocError, Global};
+use std::fmt::Debug;
 use std::process::Abort;
 use std::test::Fail;
 
@@ -159,14 +160,47 @@ fn every_byte_at_every_place(rt: HostRuntime) -> Result<(), Fail> {
     check_changes(&rt, heap, &mut wires, b"WIRES,1\nW,a,0,b,7\n", &WIRES)
 }
 
+// A row of a table of files that are refused.
+trait Row: Debug {
+    fn file(&self, heap: Global) -> Result<Vec<u8>, AllocError>;
+
+    // What the load of the file answers.
+    fn told(&self) -> Told;
+}
+
+fn check_rows<D: Destination, R: Row>(
+    rt: &impl Abort,
+    heap: Global,
+    into: &mut D,
+    rows: &[R],
+) -> Result<(), Fail> {
+    for row in rows {
+        let file = row.file(heap)?;
+        assert_eq!(rt; loaded(heap, into, &[&file])?, (row.told(), 0), "{row:?}");
+    }
+    Ok(())
+}
+
 // A file with one part many times: what stands before it, the part, how often, what follows, and what the load
 // answers.
+#[derive(Debug)]
 struct Long {
     before: &'static [u8],
     part: &'static [u8],
     times: usize,
     after: &'static [u8],
     told: Told,
+}
+
+impl Row for Long {
+    fn file(&self, heap: Global) -> Result<Vec<u8>, AllocError> {
+        let middle = self.part.repeat(heap, self.times)?;
+        joined(heap, &[self.before, &middle, self.after])
+    }
+
+    fn told(&self) -> Told {
+        self.told
+    }
 }
 
 macro_rules! long {
@@ -234,41 +268,32 @@ const LONG_WIRES: [Long; 15] = [
     long!(b"WIRES,1\nW,a,0,b,0\n", b"\xff", 100_000, b"" => refused!(11, 1, 3, 0)),
 ];
 
-fn written(heap: Global, long: &Long) -> Result<Vec<u8>, AllocError> {
-    let middle = long.part.repeat(heap, long.times)?;
-    joined(heap, &[long.before, &middle, long.after])
-}
-
-fn check_long<D: Destination>(
-    rt: &impl Abort,
-    heap: Global,
-    into: &mut D,
-    rows: &[Long],
-) -> Result<(), Fail> {
-    for long in rows {
-        let file = written(heap, long)?;
-        let Long { before, part, .. } = long;
-        assert_eq!(rt;
-            loaded(heap, into, &[&file])?,
-            (long.told, 0),
-            "{before:?} {part:?}"
-        );
-    }
-    Ok(())
-}
-
 #[test]
 fn very_long_files(rt: HostRuntime) -> Result<(), Fail> {
     let heap = rt.alloc();
-    check_long(&rt, heap, &mut FileRig::new(heap), &LONG_UNITS)?;
-    check_long(&rt, heap, &mut no_wires(heap), &LONG_WIRES)
+    check_rows(&rt, heap, &mut FileRig::new(heap), &LONG_UNITS)?;
+    check_rows(&rt, heap, &mut no_wires(heap), &LONG_WIRES)
 }
 
 // What stands before and after the 256 values from 0 on, and what the load answers.
+#[derive(Debug)]
 struct Around {
     before: &'static [u8],
     after: &'static [u8],
     told: Told,
+}
+
+impl Row for Around {
+    fn file(&self, heap: Global) -> Result<Vec<u8>, AllocError> {
+        let mut text = self.before.to_vec(heap)?;
+        text.extend(0..=255u8)?;
+        text.extend_from_slice(self.after)?;
+        Ok(text)
+    }
+
+    fn told(&self) -> Told {
+        self.told
+    }
 }
 
 macro_rules! around {
@@ -301,37 +326,9 @@ const VALUES_IN_WIRES: [Around; 6] = [
     around!(b"WIRES,1\nW,a,0,b,0\n", b"" => refused!(11, 1, 3, 0)),
 ];
 
-fn around_values(heap: Global, before: &[u8], after: &[u8]) -> Result<Vec<u8>, AllocError> {
-    let mut text = joined(heap, &[before])?;
-    text.extend(0..=255u8)?;
-    text.extend_from_slice(after)?;
-    Ok(text)
-}
-
-fn check_around<D: Destination>(
-    rt: &impl Abort,
-    heap: Global,
-    into: &mut D,
-    rows: &[Around],
-) -> Result<(), Fail> {
-    for Around {
-        before,
-        after,
-        told,
-    } in rows {
-        let file = around_values(heap, before, after)?;
-        assert_eq!(rt;
-            loaded(heap, into, &[&file])?,
-            (*told, 0),
-            "{before:?} {after:?}"
-        );
-    }
-    Ok(())
-}
-
 #[test]
 fn all_byte_values_in_one_file(rt: HostRuntime) -> Result<(), Fail> {
     let heap = rt.alloc();
-    check_around(&rt, heap, &mut FileRig::new(heap), &VALUES_IN_UNITS)?;
-    check_around(&rt, heap, &mut no_wires(heap), &VALUES_IN_WIRES)
+    check_rows(&rt, heap, &mut FileRig::new(heap), &VALUES_IN_UNITS)?;
+    check_rows(&rt, heap, &mut no_wires(heap), &VALUES_IN_WIRES)
 }
