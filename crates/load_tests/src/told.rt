@@ -99,6 +99,26 @@ pub(crate) const NOT_NUMBERS: [&[u8]; 30] = [
     b"12345678901234567890",
 ];
 
+/// A whole file: its text, what the load answers, and how many units or wires there are then.
+pub(crate) struct Whole {
+    pub(crate) text: &'static [u8],
+    pub(crate) told: Told,
+    pub(crate) count: usize,
+}
+
+/// A file by its text, how many units or wires its load leaves, and what it answers.
+macro_rules! whole {
+    ($text:expr, $count:expr => $told:expr) => {
+        Whole {
+            text: $text,
+            told: $told,
+            count: $count,
+        }
+    };
+}
+
+pub(crate) use whole;
+
 /// The parts of a text, joined.
 pub(crate) fn joined(heap: Global, parts: &[&[u8]]) -> Result<Vec<u8>, AllocError> {
     parts.concat(heap)
@@ -170,6 +190,25 @@ pub(crate) fn loaded<D: Destination>(
     let file = joined(heap, parts)?;
     let told = into.load(&file)?;
     Ok((told, into.count()))
+}
+
+/// Loads files that are refused by their first line, and files that are not.
+pub(crate) fn check_files<D: Destination>(
+    rt: &impl Abort,
+    heap: Global,
+    into: &mut D,
+    bad_first: &[&[u8]],
+    files: &[Whole],
+) -> Result<(), Fail> {
+    for text in bad_first {
+        let answer = loaded(heap, into, &[text])?;
+        assert_eq!(rt; answer, (refused!(10, 1, 1, 0), 0), "{text:?}");
+    }
+    for Whole { text, told, count } in files {
+        let answer = loaded(heap, into, &[text])?;
+        assert_eq!(rt; answer, (*told, *count), "{text:?}");
+    }
+    Ok(())
 }
 
 /// Loads a line that cannot be read after each beginning of a file, and with a fault that comes first: no line feed,

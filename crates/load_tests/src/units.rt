@@ -1,6 +1,7 @@
 // Units files: what is refused, where and why, and what the rig holds after a load.
 use super::told::{
-    BadLine, Beginning, Number, Told, bad, check_bad_line, check_numbers, loaded, refused,
+    BadLine, Beginning, Number, Whole, bad, check_bad_line, check_files, check_numbers, loaded,
+    refused, whole,
 };
 use file_rig::table::FileRig;
 use load::units::load_units;
@@ -106,54 +107,38 @@ const READ: [Read; 11] = [
 ];
 
 // Files that are refused after their first line.
-const BAD_FILES: [(&[u8], Told); 22] = [
-    (b"UNITS,1,5\n\n", refused!(11, 1, 2, 0)),
-    (b"UNITS,1,5\n\n\n", refused!(11, 1, 2, 0)),
-    (b"UNITS,1,5\n\nK,a,1\n", refused!(11, 1, 2, 0)),
-    (b"UNITS,1,5\nK,a,1\n\n", refused!(11, 1, 3, 0)),
-    (b"UNITS,1,5\nK,a,1", refused!(11, 1, 2, 0)),
-    (b"UNITS,1,5\nK", refused!(11, 1, 2, 0)),
-    (b"UNITS,1,5\nK,a,1\n ", refused!(11, 1, 3, 0)),
-    (b"UNITS,1,5\nK,a,1\nK,b,1", refused!(11, 1, 3, 0)),
-    (b"UNITS,1,5\nK,a,1\r\n", refused!(13, 1, 2, 3)),
-    (b"UNITS,1,5\r\nK,a,1\r\n", refused!(10, 1, 1, 0)),
-    (b"UNITS,1,5\nUNITS,1,5\n", refused!(11, 1, 2, 0)),
-    (b"UNITS,1,5\nK,Bad,1\nX\n", refused!(14, 1, 2, 2)),
-    (b"UNITS,1,5\nX\nK,Bad,1\n", refused!(11, 1, 2, 0)),
-    (b"UNITS,1,5\nK,a,1\nK,b\nK,a,1\nX", refused!(12, 1, 3, 0)),
-    (b"UNITS,1,5\nK,a,1\nK,b,1\nK,c,x\n", refused!(13, 1, 4, 3)),
-    (
-        b"UNITS,1,5\nK,a,1\nK,b,1\nI,c,1,2,3,1\nX\n",
-        refused!(13, 1, 4, 0),
-    ),
-    (b"UNITS,1,5\nK,a,1\nK,a,1\n", refused!(15, 1, 3, 2)),
-    (
-        b"UNITS,1,5\nI,a,0,0,0,1\nK,b,1\nG,a,0,0,0\n",
-        refused!(15, 1, 4, 2),
-    ),
-    (
-        b"UNITS,1,5\nK,a,1\nK,b,1\nK,b,x\nK,a,1\n",
-        refused!(15, 1, 4, 2),
-    ),
-    (b"UNITS,1,0\nX\n", refused!(10, 1, 1, 0)),
-    (b"WIRES,1\nW,old,0,old,0\n", refused!(10, 1, 1, 0)),
-    (
+const BAD_FILES: [Whole; 22] = [
+    whole!(b"UNITS,1,5\n\n", 0 => refused!(11, 1, 2, 0)),
+    whole!(b"UNITS,1,5\n\n\n", 0 => refused!(11, 1, 2, 0)),
+    whole!(b"UNITS,1,5\n\nK,a,1\n", 0 => refused!(11, 1, 2, 0)),
+    whole!(b"UNITS,1,5\nK,a,1\n\n", 0 => refused!(11, 1, 3, 0)),
+    whole!(b"UNITS,1,5\nK,a,1", 0 => refused!(11, 1, 2, 0)),
+    whole!(b"UNITS,1,5\nK", 0 => refused!(11, 1, 2, 0)),
+    whole!(b"UNITS,1,5\nK,a,1\n ", 0 => refused!(11, 1, 3, 0)),
+    whole!(b"UNITS,1,5\nK,a,1\nK,b,1", 0 => refused!(11, 1, 3, 0)),
+    whole!(b"UNITS,1,5\nK,a,1\r\n", 0 => refused!(13, 1, 2, 3)),
+    whole!(b"UNITS,1,5\r\nK,a,1\r\n", 0 => refused!(10, 1, 1, 0)),
+    whole!(b"UNITS,1,5\nUNITS,1,5\n", 0 => refused!(11, 1, 2, 0)),
+    whole!(b"UNITS,1,5\nK,Bad,1\nX\n", 0 => refused!(14, 1, 2, 2)),
+    whole!(b"UNITS,1,5\nX\nK,Bad,1\n", 0 => refused!(11, 1, 2, 0)),
+    whole!(b"UNITS,1,5\nK,a,1\nK,b\nK,a,1\nX", 0 => refused!(12, 1, 3, 0)),
+    whole!(b"UNITS,1,5\nK,a,1\nK,b,1\nK,c,x\n", 0 => refused!(13, 1, 4, 3)),
+    whole!(b"UNITS,1,5\nK,a,1\nK,b,1\nI,c,1,2,3,1\nX\n", 0 => refused!(13, 1, 4, 0)),
+    whole!(b"UNITS,1,5\nK,a,1\nK,a,1\n", 0 => refused!(15, 1, 3, 2)),
+    whole!(b"UNITS,1,5\nI,a,0,0,0,1\nK,b,1\nG,a,0,0,0\n", 0 => refused!(15, 1, 4, 2)),
+    whole!(b"UNITS,1,5\nK,a,1\nK,b,1\nK,b,x\nK,a,1\n", 0 => refused!(15, 1, 4, 2)),
+    whole!(b"UNITS,1,0\nX\n", 0 => refused!(10, 1, 1, 0)),
+    whole!(b"WIRES,1\nW,old,0,old,0\n", 0 => refused!(10, 1, 1, 0)),
+    whole!(
         b"UNITS,1,7\nK,a,1\nK,b,1\nK,c,1\nK,d,1\nK,e,1\nK,f,1\nK,g,1\nK,h,1\nK,i,1\nK,j,1\nK,k,1\nK,l,1\nK,m,1\nK,n,1\nK,o,1\nK,p,1\nK,q,1\nX\n",
-        refused!(16, 1, 18, 0),
+        0 => refused!(16, 1, 18, 0)
     ),
 ];
 
 #[test]
 fn whole_units_files(rt: HostRuntime) -> Result<(), Fail> {
     let mut rig = FileRig::new(rt.alloc());
-    for text in &BAD_FIRST {
-        let answer = loaded(rt.alloc(), &mut rig, &[text])?;
-        assert_eq!(rt; answer, (refused!(10, 1, 1, 0), 0), "{text:?}");
-    }
-    for (text, told) in &BAD_FILES {
-        let answer = loaded(rt.alloc(), &mut rig, &[text])?;
-        assert_eq!(rt; answer, (*told, 0), "{text:?}");
-    }
+    check_files(&rt, rt.alloc(), &mut rig, &BAD_FIRST, &BAD_FILES)?;
     for read in &READ {
         let Read { text, cap, units } = *read;
         let answer = load_units(text, &mut rig);

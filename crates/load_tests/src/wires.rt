@@ -1,7 +1,7 @@
 // Wires files: what is refused, where and why, and what the wiring holds after a load.
 use super::told::{
-    BadLine, Beginning, Number, Told, bad, check_bad_line, check_numbers, joined, loaded, no_wires,
-    port, refused,
+    BadLine, Beginning, Number, Whole, bad, check_bad_line, check_files, check_numbers, joined,
+    loaded, no_wires, port, refused, whole,
 };
 use refusal::Code;
 use std::alloc::{AllocError, Global};
@@ -36,63 +36,35 @@ const BAD_FIRST: [&[u8]; 24] = [
     b"UNITS,1,5\nK,a,1\n",
 ];
 
-// Files after their first line: the refusal, and how many wires there are then.
-const FILES: [(&[u8], Told, usize); 21] = [
-    (b"WIRES,1\n", None, 0),
-    (b"WIRES,1\nW,a,0,b,0\n", None, 1),
-    (b"WIRES,1\nW,used,7,used,7\n", None, 1),
-    (b"WIRES,1\nW,a,0,b,0\nW,a,0,b,7\nW,a,0,a,0\n", None, 3),
-    (b"WIRES,1\n\n", refused!(11, 1, 2, 0), 0),
-    (b"WIRES,1\n\nW,a,0,b,0\n", refused!(11, 1, 2, 0), 0),
-    (b"WIRES,1\nW,a,0,b,0\n\n", refused!(11, 1, 3, 0), 0),
-    (b"WIRES,1\nW,a,0,b,0", refused!(11, 1, 2, 0), 0),
-    (b"WIRES,1\nW", refused!(11, 1, 2, 0), 0),
-    (b"WIRES,1\nW,a,0,b,0\n ", refused!(11, 1, 3, 0), 0),
-    (b"WIRES,1\nW,a,0,b,0\nW,a,0,b,1", refused!(11, 1, 3, 0), 0),
-    (b"WIRES,1\nW,a,0,b,0\r\n", refused!(13, 1, 2, 5), 0),
-    (b"WIRES,1\nWIRES,1\n", refused!(11, 1, 2, 0), 0),
-    (b"WIRES,1\nW,Bad,0,b,0\nX\n", refused!(14, 1, 2, 2), 0),
-    (b"WIRES,1\nX\nW,Bad,0,b,0\n", refused!(11, 1, 2, 0), 0),
-    (
-        b"WIRES,1\nW,a,0,b,0\nW,a,0,b\nW,a,0,b,0\nX",
-        refused!(12, 1, 3, 0),
-        0,
-    ),
-    (
-        b"WIRES,1\nW,a,0,b,0\nW,a,0,b,1\nW,nobody,0,b,2\n",
-        refused!(17, 1, 4, 2),
-        0,
-    ),
-    (b"WIRES,1\nW,a,0,b,0\nW,a,0,b,0\n", refused!(19, 1, 3, 0), 0),
-    (
-        b"WIRES,1\nW,a,0,b,0\nW,c,3,d,0\nW,used,7,b,0\nX\n",
-        refused!(19, 1, 4, 0),
-        0,
-    ),
-    (
-        b"WIRES,1\nW,a,0,b,0\nW,a,0,b,1\nW,b,0,b,1\nW,a,0,b,0\n",
-        refused!(19, 1, 4, 0),
-        0,
-    ),
-    (
-        b"WIRES,1\nW,a,0,b,0\nW,a,0,b,0,\n",
-        refused!(12, 1, 3, 0),
-        0,
-    ),
+// Files that are read, and files that are refused after their first line.
+const FILES: [Whole; 21] = [
+    whole!(b"WIRES,1\n", 0 => None),
+    whole!(b"WIRES,1\nW,a,0,b,0\n", 1 => None),
+    whole!(b"WIRES,1\nW,used,7,used,7\n", 1 => None),
+    whole!(b"WIRES,1\nW,a,0,b,0\nW,a,0,b,7\nW,a,0,a,0\n", 3 => None),
+    whole!(b"WIRES,1\n\n", 0 => refused!(11, 1, 2, 0)),
+    whole!(b"WIRES,1\n\nW,a,0,b,0\n", 0 => refused!(11, 1, 2, 0)),
+    whole!(b"WIRES,1\nW,a,0,b,0\n\n", 0 => refused!(11, 1, 3, 0)),
+    whole!(b"WIRES,1\nW,a,0,b,0", 0 => refused!(11, 1, 2, 0)),
+    whole!(b"WIRES,1\nW", 0 => refused!(11, 1, 2, 0)),
+    whole!(b"WIRES,1\nW,a,0,b,0\n ", 0 => refused!(11, 1, 3, 0)),
+    whole!(b"WIRES,1\nW,a,0,b,0\nW,a,0,b,1", 0 => refused!(11, 1, 3, 0)),
+    whole!(b"WIRES,1\nW,a,0,b,0\r\n", 0 => refused!(13, 1, 2, 5)),
+    whole!(b"WIRES,1\nWIRES,1\n", 0 => refused!(11, 1, 2, 0)),
+    whole!(b"WIRES,1\nW,Bad,0,b,0\nX\n", 0 => refused!(14, 1, 2, 2)),
+    whole!(b"WIRES,1\nX\nW,Bad,0,b,0\n", 0 => refused!(11, 1, 2, 0)),
+    whole!(b"WIRES,1\nW,a,0,b,0\nW,a,0,b\nW,a,0,b,0\nX", 0 => refused!(12, 1, 3, 0)),
+    whole!(b"WIRES,1\nW,a,0,b,0\nW,a,0,b,1\nW,nobody,0,b,2\n", 0 => refused!(17, 1, 4, 2)),
+    whole!(b"WIRES,1\nW,a,0,b,0\nW,a,0,b,0\n", 0 => refused!(19, 1, 3, 0)),
+    whole!(b"WIRES,1\nW,a,0,b,0\nW,c,3,d,0\nW,used,7,b,0\nX\n", 0 => refused!(19, 1, 4, 0)),
+    whole!(b"WIRES,1\nW,a,0,b,0\nW,a,0,b,1\nW,b,0,b,1\nW,a,0,b,0\n", 0 => refused!(19, 1, 4, 0)),
+    whole!(b"WIRES,1\nW,a,0,b,0\nW,a,0,b,0,\n", 0 => refused!(12, 1, 3, 0)),
 ];
 
 #[test]
 fn whole_wires_files(rt: HostRuntime) -> Result<(), Fail> {
     let mut wires = no_wires(rt.alloc());
-    for text in &BAD_FIRST {
-        let answer = loaded(rt.alloc(), &mut wires, &[text])?;
-        assert_eq!(rt; answer, (refused!(10, 1, 1, 0), 0), "{text:?}");
-    }
-    for (text, told, count) in &FILES {
-        let answer = loaded(rt.alloc(), &mut wires, &[text])?;
-        assert_eq!(rt; answer, (*told, *count), "{text:?}");
-    }
-    Ok(())
+    check_files(&rt, rt.alloc(), &mut wires, &BAD_FIRST, &FILES)
 }
 
 // Beginnings of files, each with a wire to input 0 of the unit named used, and the number of the line that follows.
