@@ -156,7 +156,7 @@ fn every_byte_at_every_place(rt: HostRuntime) -> Result<(), Fail> {
     let heap = rt.alloc();
     let mut rig = FileRig::new(heap);
     check_changes(&rt, heap, &mut rig, b"UNITS,1,5\nK,a,7\n", &UNITS)?;
-    let mut wires = no_wires(heap);
+    let mut wires = no_wires(heap)?;
     check_changes(&rt, heap, &mut wires, b"WIRES,1\nW,a,0,b,7\n", &WIRES)
 }
 
@@ -272,7 +272,7 @@ const LONG_WIRES: [Long; 15] = [
 fn very_long_files(rt: HostRuntime) -> Result<(), Fail> {
     let heap = rt.alloc();
     check_rows(&rt, heap, &mut FileRig::new(heap), &LONG_UNITS)?;
-    check_rows(&rt, heap, &mut no_wires(heap), &LONG_WIRES)
+    check_rows(&rt, heap, &mut no_wires(heap)?, &LONG_WIRES)
 }
 
 // What stands before and after the 256 values from 0 on, and what the load answers.
@@ -330,5 +330,5 @@ const VALUES_IN_WIRES: [Around; 6] = [
 fn all_byte_values_in_one_file(rt: HostRuntime) -> Result<(), Fail> {
     let heap = rt.alloc();
     check_rows(&rt, heap, &mut FileRig::new(heap), &VALUES_IN_UNITS)?;
-    check_rows(&rt, heap, &mut no_wires(heap), &VALUES_IN_WIRES)
+    check_rows(&rt, heap, &mut no_wires(heap)?, &VALUES_IN_WIRES)
 }

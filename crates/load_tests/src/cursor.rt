@@ -31,6 +31,9 @@ fn begun(heap: Global, first: &[u8], lines: &[Line], stop: &Stop) -> Result<Vec<
     Ok(file)
 }
 
+// The name that a line has, which later lines are read against; none at the end of the file.
+type Answer<'a> = Result<Option<&'a [u8]>, FileFault>;
+
 // What a cursor reads lines for.
 trait Reader {
     // A first line that is read.
@@ -39,8 +42,8 @@ trait Reader {
     // Whether the first line is read, and as what it says.
     fn heading(cursor: &mut Cursor<'_>) -> bool;
 
-    // The name that the next line has, which later lines are read against; none at the end of the file.
-    fn next<'a>(&mut self, cursor: &mut Cursor<'a>) -> Result<Option<&'a [u8]>, FileFault>;
+    // Reads the next line, and adds its unit where it has one.
+    fn next<'a>(&mut self, cursor: &mut Cursor<'a>) -> Result<Answer<'a>, Fail>;
 }
 
 impl Reader for FileRig {
@@ -50,12 +53,12 @@ impl Reader for FileRig {
         cursor.units_heading() == Ok(9)
     }
 
-    fn next<'a>(&mut self, cursor: &mut Cursor<'a>) -> Result<Option<&'a [u8]>, FileFault> {
-        let Some(line) = cursor.next_unit(self).transpose()? else {
-            return Ok(None);
-        };
-        let _ = self.add(line.name(), line.design());
-        Ok(Some(line.name()))
+    fn next<'a>(&mut self, cursor: &mut Cursor<'a>) -> Result<Answer<'a>, Fail> {
+        let answer = cursor.next_unit(self).transpose();
+        if let Ok(Some(line)) = &answer {
+            self.add(line.name(), line.design())?;
+        }
+        Ok(answer.map(|line| line.map(|line| line.name())))
     }
 }
 
@@ -66,9 +69,9 @@ impl Reader for Wires {
         cursor.wires_heading() == Ok(())
     }
 
-    fn next<'a>(&mut self, cursor: &mut Cursor<'a>) -> Result<Option<&'a [u8]>, FileFault> {
-        let line = cursor.next_wire(&self.rig).transpose()?;
-        Ok(line.map(|line| line.target().name))
+    fn next<'a>(&mut self, cursor: &mut Cursor<'a>) -> Result<Answer<'a>, Fail> {
+        let answer = cursor.next_wire(&self.rig).transpose();
+        Ok(answer.map(|line| line.map(|line| line.target().name)))
     }
 }
 
@@ -85,7 +88,7 @@ fn check_lines<'a, R: Reader>(
     let (mut line, mut at) = place(cursor);
     for (text, name) in lines.iter().take(count) {
         assert_eq!(rt; place(cursor), (line, at), "{after:?}");
-        let Ok(Some(found)) = reader.next(cursor) else {
+        let Ok(Some(found)) = reader.next(cursor)? else {
             return Err(Fail::new("a line is not read"));
         };
         assert_eq!(rt; found, *name);
@@ -93,11 +96,11 @@ fn check_lines<'a, R: Reader>(
         at = at.saturating_add(text.len());
     }
     assert_eq!(rt; place(cursor), (line, at), "{after:?}");
-    let last = reader.next(cursor);
+    let last = reader.next(cursor)?;
     assert!(rt; !matches!(last, Ok(Some(_))), "{after:?}");
     assert_eq!(rt; last.err().map(Code::from), told, "{after:?}");
     assert_eq!(rt; place(cursor), (line, end), "{after:?}");
-    assert!(rt; matches!(reader.next(cursor), Ok(None)), "{after:?}");
+    assert!(rt; matches!(reader.next(cursor)?, Ok(None)), "{after:?}");
     assert_eq!(rt; place(cursor), (line, end), "{after:?}");
     Ok(())
 }
@@ -172,38 +175,37 @@ const WIRES_STOPS: [Stop; 9] = [
 
 #[test]
 fn a_cursor_over_wires(rt: HostRuntime) -> Result<(), Fail> {
-    let mut wires = no_wires(rt.alloc());
+    let mut wires = no_wires(rt.alloc())?;
     for stop in &WIRES_STOPS {
         check_walk(&rt, rt.alloc(), &mut wires, &WIRES, stop)?;
     }
     Ok(())
 }
 
-// The name in a first line, empty where there is none: it is the file's, and the cursor that read it is gone.
-fn first_name<'a>(file: &'a [u8], rig: &FileRig) -> &'a [u8] {
+// The name in a first line: it is the file's, and the cursor that read it is gone.
+fn first_name<'a>(file: &'a [u8], rig: &FileRig) -> Answer<'a> {
     let mut cursor = Cursor::new(file);
-    let _ = cursor.units_heading();
-    match cursor.next_unit(rig) {
-        Some(Ok(line)) => line.name(),
-        _ => b"",
-    }
+    cursor.units_heading()?;
+    let line = cursor.next_unit(rig).transpose()?;
+    Ok(line.map(|line| line.name()))
 }
 
-fn first_end<'a>(file: &'a [u8], rig: &FileRig) -> &'a [u8] {
+fn first_end<'a>(file: &'a [u8], rig: &FileRig) -> Answer<'a> {
     let mut cursor = Cursor::new(file);
-    let _ = cursor.wires_heading();
-    match cursor.next_wire(rig) {
-        Some(Ok(line)) => line.source().name,
-        _ => b"",
-    }
+    cursor.wires_heading()?;
+    let line = cursor.next_wire(rig).transpose()?;
+    Ok(line.map(|line| line.source().name))
 }
 
 #[test]
-fn names_outlive_the_cursor(rt: HostRuntime) {
-    let rig = sixteen(rt.alloc());
-    assert!(rt; first_end(b"WIRES,1\nW,winch,0,b,0\n", &rig) == b"winch".as_slice());
+fn names_outlive_the_cursor(rt: HostRuntime) -> Result<(), Fail> {
+    let rig = sixteen(rt.alloc())?;
+    let end = first_end(b"WIRES,1\nW,winch,0,b,0\n", &rig);
+    assert_eq!(rt; end, Ok(Some(b"winch".as_slice())));
     let empty = FileRig::new(rt.alloc());
-    assert!(rt; first_name(b"UNITS,1,9\nK,draw,1\n", &empty) == b"draw".as_slice());
+    let name = first_name(b"UNITS,1,9\nK,draw,1\n", &empty);
+    assert_eq!(rt; name, Ok(Some(b"draw".as_slice())));
+    Ok(())
 }
 
 const NO_HEADING: [&[u8]; 5] = [
@@ -215,8 +217,8 @@ const NO_HEADING: [&[u8]; 5] = [
 ];
 
 #[test]
-fn a_cursor_without_a_heading(rt: HostRuntime) {
-    let rig = sixteen(rt.alloc());
+fn a_cursor_without_a_heading(rt: HostRuntime) -> Result<(), Fail> {
+    let rig = sixteen(rt.alloc())?;
     let fault = FileFault {
         line: 1,
         fault: LineFault::FirstLine,
@@ -231,4 +233,5 @@ fn a_cursor_without_a_heading(rt: HostRuntime) {
         assert_eq!(rt; place(&wires), (1, file.len()), "{file:?}");
         assert!(rt; wires.next_wire(&rig).is_none(), "{file:?}");
     }
+    Ok(())
 }

@@ -183,8 +183,8 @@ pub(crate) fn loaded<D: Destination>(
     into: &mut D,
     parts: &[&[u8]],
 ) -> Result<(Told, usize), Fail> {
-    let _ = into.load(D::ONE)?;
-    if into.count() != 1 {
+    let told = into.load(D::ONE)?;
+    if told.is_some() || into.count() != 1 {
         return Err(Fail::new("the file of one is not loaded"));
     }
     let file = joined(heap, parts)?;
@@ -266,16 +266,16 @@ const SIXTEEN: &[u8] =
     b"UNITS,1,9\nK,used,1\nK,tank,1\nK,a,1\nK,b,1\nK,winch,1\nK,net,1\nK,draw,1\nK,12345678,1\nK,0,1\nK,c,1\nK,d,1\nK,e,1\nK,f,1\nK,g,1\nK,abcdefgh,1\nK,z,1\n";
 
 /// A rig of these 16 units.
-pub(crate) fn sixteen(heap: Global) -> FileRig {
+pub(crate) fn sixteen(heap: Global) -> Result<FileRig, Fail> {
     let mut rig = FileRig::new(heap);
-    let _ = load_units(SIXTEEN, &mut rig);
-    rig
+    load_units(SIXTEEN, &mut rig)?;
+    Ok(rig)
 }
 
 /// No wires yet, between these 16 units.
-pub(crate) fn no_wires(heap: Global) -> Wires {
-    Wires {
-        rig: sixteen(heap),
+pub(crate) fn no_wires(heap: Global) -> Result<Wires, Fail> {
+    Ok(Wires {
+        rig: sixteen(heap)?,
         wiring: Wiring::new(),
-    }
+    })
 }

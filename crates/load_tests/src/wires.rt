@@ -63,7 +63,7 @@ const FILES: [Whole; 21] = [
 
 #[test]
 fn whole_wires_files(rt: HostRuntime) -> Result<(), Fail> {
-    let mut wires = no_wires(rt.alloc());
+    let mut wires = no_wires(rt.alloc())?;
     check_files(&rt, rt.alloc(), &mut wires, &BAD_FIRST, &FILES)
 }
 
@@ -169,7 +169,7 @@ const BAD_LINES: [BadLine; 81] = [
 
 #[test]
 fn wires_lines_refused(rt: HostRuntime) -> Result<(), Fail> {
-    let mut wires = no_wires(rt.alloc());
+    let mut wires = no_wires(rt.alloc())?;
     for bad in &BAD_LINES {
         check_bad_line(&rt, rt.alloc(), &mut wires, bad, &BEFORE, &AFTER, b"W")?;
     }
@@ -184,7 +184,7 @@ const NUMBERS: [Number; 2] = [
 
 #[test]
 fn each_number_of_a_wire(rt: HostRuntime) -> Result<(), Fail> {
-    let mut wires = no_wires(rt.alloc());
+    let mut wires = no_wires(rt.alloc())?;
     check_numbers(&rt, rt.alloc(), &mut wires, &NUMBERS)
 }
 
@@ -205,7 +205,7 @@ const WIRES_FILE: &[u8] =
 
 #[test]
 fn wires_as_their_lines_say(rt: HostRuntime) -> Result<(), Fail> {
-    let mut wires = no_wires(rt.alloc());
+    let mut wires = no_wires(rt.alloc())?;
     let answer = loaded(rt.alloc(), &mut wires, &[WIRES_FILE])?;
     assert_eq!(rt; answer, (None, 8));
     for (from, to) in &WIRES {
@@ -249,7 +249,7 @@ fn all_wired(heap: Global) -> Result<Vec<u8>, AllocError> {
 
 #[test]
 fn every_input_wired(rt: HostRuntime) -> Result<(), Fail> {
-    let mut wires = no_wires(rt.alloc());
+    let mut wires = no_wires(rt.alloc())?;
     let all = all_wired(rt.alloc())?;
     let answer = loaded(rt.alloc(), &mut wires, &[&all])?;
     assert_eq!(rt; answer, (None, 128));
