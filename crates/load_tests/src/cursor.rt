@@ -18,16 +18,29 @@ fn place(cursor: &Cursor<'_>) -> (usize, usize) {
 type Line = (&'static [u8], &'static [u8]);
 
 // How many of the lines are read, what follows them, and what the next call answers.
-type Stop = (usize, &'static [u8], Told);
+struct Stop {
+    count: usize,
+    after: &'static [u8],
+    told: Told,
+}
+
+macro_rules! stop {
+    ($count:expr, $after:expr => $told:expr) => {
+        Stop {
+            count: $count,
+            after: $after,
+            told: $told,
+        }
+    };
+}
 
 // A first line, the first few of some lines, and what follows them.
 fn begun(heap: Global, first: &[u8], lines: &[Line], stop: &Stop) -> Result<Vec<u8>, AllocError> {
-    let (count, after, _) = *stop;
     let mut file = joined(heap, &[first])?;
-    for (text, _) in lines.iter().take(count) {
+    for (text, _) in lines.iter().take(stop.count) {
         file.extend_from_slice(text)?;
     }
-    file.extend_from_slice(after)?;
+    file.extend_from_slice(stop.after)?;
     Ok(file)
 }
 
@@ -84,7 +97,7 @@ fn check_lines<'a, R: Reader>(
     stop: &Stop,
     end: usize,
 ) -> Result<(), Fail> {
-    let (count, after, told) = *stop;
+    let Stop { count, after, told } = *stop;
     let (mut line, mut at) = place(cursor);
     for (text, name) in lines.iter().take(count) {
         assert_eq!(rt; place(cursor), (line, at), "{after:?}");
@@ -130,18 +143,18 @@ const UNITS: [Line; 4] = [
 ];
 
 const UNITS_STOPS: [Stop; 12] = [
-    (0, b"", None),
-    (1, b"", None),
-    (4, b"", None),
-    (0, b"\n", refused!(11, 1, 2, 0)),
-    (0, b"K,a,1", refused!(11, 1, 2, 0)),
-    (1, b"K,b\nK,c,1\n", refused!(12, 1, 3, 0)),
-    (1, b"K,a,1\nK,c,1\nK,d,1\n", refused!(15, 1, 3, 2)),
-    (2, b"K,Bad,1\n\n\n", refused!(14, 1, 4, 2)),
-    (3, b"I,b,1,2,3,1\nX", refused!(13, 1, 5, 0)),
-    (3, b"W,a,0,a,0\n", refused!(11, 1, 5, 0)),
-    (4, b"K,b,x\nK,b,1\n", refused!(13, 1, 6, 3)),
-    (4, b"K,b,1", refused!(11, 1, 6, 0)),
+    stop!(0, b"" => None),
+    stop!(1, b"" => None),
+    stop!(4, b"" => None),
+    stop!(0, b"\n" => refused!(11, 1, 2, 0)),
+    stop!(0, b"K,a,1" => refused!(11, 1, 2, 0)),
+    stop!(1, b"K,b\nK,c,1\n" => refused!(12, 1, 3, 0)),
+    stop!(1, b"K,a,1\nK,c,1\nK,d,1\n" => refused!(15, 1, 3, 2)),
+    stop!(2, b"K,Bad,1\n\n\n" => refused!(14, 1, 4, 2)),
+    stop!(3, b"I,b,1,2,3,1\nX" => refused!(13, 1, 5, 0)),
+    stop!(3, b"W,a,0,a,0\n" => refused!(11, 1, 5, 0)),
+    stop!(4, b"K,b,x\nK,b,1\n" => refused!(13, 1, 6, 3)),
+    stop!(4, b"K,b,1" => refused!(11, 1, 6, 0)),
 ];
 
 #[test]
@@ -149,7 +162,7 @@ fn a_cursor_over_units(rt: HostRuntime) -> Result<(), Fail> {
     for stop in &UNITS_STOPS {
         let mut rig = FileRig::new(rt.alloc());
         check_walk(&rt, rt.alloc(), &mut rig, &UNITS, stop)?;
-        assert_eq!(rt; rig.units(), stop.0);
+        assert_eq!(rt; rig.units(), stop.count);
     }
     Ok(())
 }
@@ -162,15 +175,15 @@ const WIRES: [Line; 3] = [
 ];
 
 const WIRES_STOPS: [Stop; 9] = [
-    (0, b"", None),
-    (3, b"", None),
-    (0, b"\n", refused!(11, 1, 2, 0)),
-    (0, b"W,a,0,b,0", refused!(11, 1, 2, 0)),
-    (1, b"W,a,0\nW,a,0,b,1\n", refused!(12, 1, 3, 0)),
-    (1, b"W,nobody,0,b,0\n\n", refused!(17, 1, 3, 2)),
-    (2, b"W,a,0,Bad,0\nX", refused!(14, 1, 4, 4)),
-    (3, b"W,a,8,b,0\n", refused!(13, 1, 5, 3)),
-    (3, b"W", refused!(11, 1, 5, 0)),
+    stop!(0, b"" => None),
+    stop!(3, b"" => None),
+    stop!(0, b"\n" => refused!(11, 1, 2, 0)),
+    stop!(0, b"W,a,0,b,0" => refused!(11, 1, 2, 0)),
+    stop!(1, b"W,a,0\nW,a,0,b,1\n" => refused!(12, 1, 3, 0)),
+    stop!(1, b"W,nobody,0,b,0\n\n" => refused!(17, 1, 3, 2)),
+    stop!(2, b"W,a,0,Bad,0\nX" => refused!(14, 1, 4, 4)),
+    stop!(3, b"W,a,8,b,0\n" => refused!(13, 1, 5, 3)),
+    stop!(3, b"W" => refused!(11, 1, 5, 0)),
 ];
 
 #[test]

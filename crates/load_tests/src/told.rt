@@ -63,7 +63,24 @@ pub(crate) use bad;
 pub(crate) type Beginning = (&'static [u8], usize);
 
 /// A number of a line: what stands before and after it in a file, and its field.
-pub(crate) type Number = (&'static [u8], &'static [u8], usize);
+pub(crate) struct Number {
+    pub(crate) before: &'static [u8],
+    pub(crate) after: &'static [u8],
+    pub(crate) field: usize,
+}
+
+/// A number of a line by what stands before and after it, and its field.
+macro_rules! number {
+    ($before:expr, $after:expr, $field:expr) => {
+        Number {
+            before: $before,
+            after: $after,
+            field: $field,
+        }
+    };
+}
+
+pub(crate) use number;
 
 /// Texts that are no numbers, whatever field they stand in.
 pub(crate) const NOT_NUMBERS: [&[u8]; 30] = [
@@ -183,8 +200,7 @@ pub(crate) fn loaded<D: Destination>(
     into: &mut D,
     parts: &[&[u8]],
 ) -> Result<(Told, usize), Fail> {
-    let told = into.load(D::ONE)?;
-    if told.is_some() || into.count() != 1 {
+    if into.load(D::ONE)?.is_some() || into.count() != 1 {
         return Err(Fail::new("the file of one is not loaded"));
     }
     let file = joined(heap, parts)?;
@@ -253,7 +269,11 @@ pub(crate) fn check_numbers<D: Destination>(
     numbers: &[Number],
 ) -> Result<(), Fail> {
     for text in &NOT_NUMBERS {
-        for (before, after, field) in numbers {
+        for Number {
+            before,
+            after,
+            field,
+        } in numbers {
             let answer = loaded(heap, into, &[before, text, after])?;
             assert_eq!(rt; answer, (refused!(13, 1, 2, *field), 0), "{text:?}");
         }

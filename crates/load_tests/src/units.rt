@@ -1,7 +1,7 @@
 // Units files: what is refused, where and why, and what the rig holds after a load.
 use super::told::{
     BadLine, Beginning, Number, Whole, bad, check_bad_line, check_files, check_numbers, loaded,
-    refused, whole,
+    number, refused, whole,
 };
 use file_rig::table::FileRig;
 use load::units::load_units;
@@ -319,14 +319,14 @@ fn units_lines_refused(rt: HostRuntime) -> Result<(), Fail> {
 
 // Each number of a line of each kind: what stands before and after it, and its field.
 const NUMBERS: [Number; 8] = [
-    (b"UNITS,1,7\nK,a,", b"\n", 3),
-    (b"UNITS,1,7\nG,a,", b",0,0\n", 3),
-    (b"UNITS,1,7\nG,a,0,", b",0\n", 4),
-    (b"UNITS,1,7\nG,a,0,0,", b"\n", 5),
-    (b"UNITS,1,7\nI,a,", b",0,0,1\n", 3),
-    (b"UNITS,1,7\nI,a,0,", b",0,1\n", 4),
-    (b"UNITS,1,7\nI,a,0,0,", b",1\n", 5),
-    (b"UNITS,1,7\nI,a,0,0,0,", b"\n", 6),
+    number!(b"UNITS,1,7\nK,a,", b"\n", 3),
+    number!(b"UNITS,1,7\nG,a,", b",0,0\n", 3),
+    number!(b"UNITS,1,7\nG,a,0,", b",0\n", 4),
+    number!(b"UNITS,1,7\nG,a,0,0,", b"\n", 5),
+    number!(b"UNITS,1,7\nI,a,", b",0,0,1\n", 3),
+    number!(b"UNITS,1,7\nI,a,0,", b",0,1\n", 4),
+    number!(b"UNITS,1,7\nI,a,0,0,", b",1\n", 5),
+    number!(b"UNITS,1,7\nI,a,0,0,0,", b"\n", 6),
 ];
 
 #[test]

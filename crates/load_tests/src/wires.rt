@@ -1,7 +1,7 @@
 // Wires files: what is refused, where and why, and what the wiring holds after a load.
 use super::told::{
     BadLine, Beginning, Number, Whole, bad, check_bad_line, check_files, check_numbers, joined,
-    loaded, no_wires, port, refused, whole,
+    loaded, no_wires, number, port, refused, whole,
 };
 use refusal::Code;
 use std::alloc::{AllocError, Global};
@@ -178,8 +178,8 @@ fn wires_lines_refused(rt: HostRuntime) -> Result<(), Fail> {
 
 // Each number of a line: what stands before and after it, and its field.
 const NUMBERS: [Number; 2] = [
-    (b"WIRES,1\nW,a,", b",b,0\n", 3),
-    (b"WIRES,1\nW,a,0,b,", b"\n", 5),
+    number!(b"WIRES,1\nW,a,", b",b,0\n", 3),
+    number!(b"WIRES,1\nW,a,0,b,", b"\n", 5),
 ];
 
 #[test]
