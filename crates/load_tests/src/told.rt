@@ -195,6 +195,7 @@ impl Destination for Wires {
 }
 
 /// Loads the file of these parts over one unit or wire: its refusal, and how many units or wires there are then.
+// Runtime, heap and destination go apart, here and below: each test would make a struct of them for one call.
 pub(crate) fn loaded<D: Destination>(
     heap: Global,
     into: &mut D,
