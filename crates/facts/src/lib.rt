@@ -3,6 +3,7 @@
 
 ghost use Rattle.std.specs.Prelude.{◌≡◌};
 ghost use Rattle.facts.specs.Worked.{WorkedCases};
+ghost use Rattle.facts.specs.Reading.{ReadingCases};
 
 /// Stands for the proof of the worked cases.
 fn cases_hold()
@@ -16,4 +17,18 @@ pub fn worked_cases() -> usize
 {
     cases_hold();
     6
+}
+
+/// Stands for the proof of the worked cases of reading.
+fn reading_holds()
+    ensures { ReadingCases }
+{}
+
+/// Every worked case of reading holds. Answers how many there are.
+pub fn reading_cases() -> usize
+    ensures count { result ≡ 8 }
+    ensures hold { ReadingCases }
+{
+    reading_holds();
+    8
 }

@@ -41,6 +41,10 @@ pub record UnitLineLaw (known : List (List ℕ)) (text : List ℕ) (u : UnitSaid
   pub only : unit_line known text ≡ Ok u → (unit_text u ≡ text) × ProperUnit known u
   pub every : unit_text u ≡ text → ProperUnit known u → unit_line known text ≡ Ok u
 
+-- so each line of a units file after the first
+abbrev pub UnitGrammar : Type 0
+UnitGrammar = (known : List (List ℕ)) (text : List ℕ) (u : UnitSaid) → UnitLineLaw known text u
+
 -- the name of a unit
 abbrev pub name_in : List (List ℕ) → ℕ → List ℕ
 name_in known u = slice_index_or known u []
@@ -67,6 +71,10 @@ pub record WireLineLaw (known : List (List ℕ)) (text : List ℕ) (w : Wire) : 
   pub only : wire_line known text ≡ Ok w → (wire_text known w ≡ text) × ProperWire known w
   pub every : wire_text known w ≡ text → ProperWire known w → wire_line known text ≡ Ok w
 
+-- so each line of a wires file after the first
+abbrev pub WireGrammar : Type 0
+WireGrammar = (known : List (List ℕ)) (text : List ℕ) (w : Wire) → WireLineLaw known text w
+
 -- the first line of a units file with this cap
 abbrev pub cap_fields : ℕ → List (List ℕ)
 cap_fields n = codes "UNITS" ∷ codes "1" ∷ decimal n ∷ []
@@ -81,3 +89,7 @@ pub record ProperCap (n : ℕ) : Type 0 where
 pub record CapLaw (text : List ℕ) (n : ℕ) : Type 0 where
   pub only : cap_of text ≡ Some n → (cap_text n ≡ text) × ProperCap n
   pub every : cap_text n ≡ text → ProperCap n → cap_of text ≡ Some n
+
+-- so the first line of a units file
+abbrev pub CapGrammar : Type 0
+CapGrammar = (text : List ℕ) (n : ℕ) → CapLaw text n

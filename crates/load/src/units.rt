@@ -2,7 +2,8 @@
 ghost use Rattle.std.specs.Prelude.{◌≡◌, ℕ};
 ghost use Rattle.file_rig.specs.Table.{names_of};
 ghost use Rattle.lines.specs.UnitLines.{unit_said};
-ghost use Rattle.grammar.specs.Texts.{ProperUnit};
+ghost use Rattle.fields.specs.Parts.{PartsLaw};
+ghost use Rattle.grammar.specs.Texts.{ProperUnit, CapGrammar, UnitGrammar};
 ghost use Rattle.grammar.specs.Laws.{UnitsGrammar};
 ghost use Rattle.load.specs.Loaded.{UnitsLoaded};
 ghost use Rattle.load.specs.Filling.{UnitsFilled, LineAdded};
@@ -45,9 +46,13 @@ fn fill_units(bytes: &[u8], rig: &mut FileRig) -> Result<u32, LoadFault>
 }
 
 /// Fills a rig with the units of a units file, and answers the file's cap. A file that is refused leaves the rig without units.
+#[tactic(auto, using(grammar::proofs::Lines::cap_law, grammar::proofs::Lines::unit_line_law))]
 pub fn load_units(bytes: &[u8], rig: &mut FileRig) -> Result<u32, LoadFault>
     ensures loaded { UnitsLoaded bytes.now result rig.new }
     ensures grammar { UnitsGrammar bytes.now }
+    ensures lines { PartsLaw 10 bytes.now }
+    ensures first { CapGrammar }
+    ensures later { UnitGrammar }
 {
     // No `map_err`: of a closure that changes what it borrows the proof is not told what it leaves there.
     let answer = fill_units(bytes, rig);

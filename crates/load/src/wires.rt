@@ -3,6 +3,8 @@ ghost use Rattle.std.specs.Prelude.{◌≡◌, ℕ, Some};
 ghost use Rattle.file_rig.specs.Table.{names_of};
 ghost use Rattle.lines.specs.Known.{unit_named};
 ghost use Rattle.lines.specs.WireLines.{Wire, Names, IsEnd, end_said};
+ghost use Rattle.fields.specs.Parts.{PartsLaw};
+ghost use Rattle.grammar.specs.Texts.{WireGrammar};
 ghost use Rattle.grammar.specs.Laws.{WiresGrammar};
 ghost use Rattle.load.specs.Loaded.{WiresLoaded};
 ghost use Rattle.load.specs.Filling.{Resolves, WireAdded, WiresFilled};
@@ -72,9 +74,12 @@ fn fill_wires(bytes: &[u8], rig: &FileRig, wiring: &mut Wiring) -> Result<(), Fi
 }
 
 /// Fills a wiring with the wires of a wires file between units of a loaded rig. A file that is refused leaves it without wires.
+#[tactic(auto, using(grammar::proofs::Lines::wire_line_law))]
 pub fn load_wires(bytes: &[u8], rig: &FileRig, wiring: &mut Wiring) -> Result<(), FileFault>
     ensures loaded { WiresLoaded (names_of rig.now) bytes.now result wiring.new }
     ensures grammar { WiresGrammar (names_of rig.now) bytes.now }
+    ensures lines { PartsLaw 10 bytes.now }
+    ensures later { WireGrammar }
 {
     // No `map_err`: of a closure that changes what it borrows the proof is not told what it leaves there.
     let answer = fill_wires(bytes, rig, wiring);
