@@ -18,6 +18,7 @@ after_text p text None = stopped p
 after_text p text (Some x) = passed p (length text)
 
 module _ {T : Type 0} (judge : List ℕ → Option T) where
+  -- what is answered of what was found at the cursor
   abbrev pub heading_in : ℕ → Option (Result (List ℕ) LineFault) → Result T FileFault
   heading_in l None = Err (bad_first l)
   heading_in l (Some (Ok text)) = ok_or (judge text) (bad_first l)
@@ -27,6 +28,7 @@ module _ {T : Type 0} (judge : List ℕ → Option T) where
   abbrev pub heading_at : Position → Result T FileFault
   heading_at p = heading_in p.line (front_of (ahead p))
 
+  -- where the cursor stands after what was found there
   abbrev pub after_first : Position → Option (Result (List ℕ) LineFault) → Position
   after_first p None = stopped p
   after_first p (Some (Ok text)) = after_text p text (judge text)

@@ -12,6 +12,7 @@ pub record Position : Type 0 where
   pub at : ℕ
   pub line : ℕ
 
+-- where a cursor stands
 abbrev pub position_of : Cursor → Position
 position_of c = record { bytes = c.bytes.now; at = c.at; line = c.line }
 
@@ -29,6 +30,7 @@ front_of [] = None
 front_of (rest ∷ []) = cond (length rest == 0) None (Some (Err Letter))
 front_of (text ∷ next ∷ later) = Some (Ok text)
 
+-- what was found at the cursor, its bytes read
 abbrev pub text_read : Option (Result (Bor (List ℕ)) LineFault) → Option (Result (List ℕ) LineFault)
 text_read None = None
 text_read (Some (Ok text)) = Some (Ok text.now)
@@ -40,9 +42,10 @@ Fits p None = Unit {0}
 Fits p (Some (Ok text)) = p.at + length text + 1 ≤ length p.bytes
 Fits p (Some (Err e)) = Unit {0}
 
--- past a line of this length and its line feed; and at the end, where a line cannot be read
+-- past a line of this length and its line feed
 abbrev pub passed : Position → ℕ → Position
 passed p n = record { bytes = p.bytes; at = p.at + n + 1; line = p.line + 1 }
 
+-- at the end of the file, the number of the line kept
 abbrev pub stopped : Position → Position
 stopped p = record { bytes = p.bytes; at = length p.bytes; line = p.line }

@@ -21,6 +21,7 @@ after_line p text (Ok x) = passed p (length text)
 after_line p text (Err e) = stopped p
 
 module _ {T : Type 0} (judge : List ℕ → Result T LineFault) where
+  -- what is answered of what was found at the cursor
   abbrev pub answer_to : ℕ → Option (Result (List ℕ) LineFault) → Option (Result T FileFault)
   answer_to l None = None
   answer_to l (Some (Ok text)) = Some (on_line l (judge text))
@@ -30,6 +31,7 @@ module _ {T : Type 0} (judge : List ℕ → Result T LineFault) where
   abbrev pub answer_at : Position → Option (Result T FileFault)
   answer_at p = answer_to p.line (front_of (ahead p))
 
+  -- where the cursor stands after what was found there
   abbrev pub after_front : Position → Option (Result (List ℕ) LineFault) → Position
   after_front p None = p
   after_front p (Some (Ok text)) = after_line p text (judge text)
@@ -56,6 +58,7 @@ unit_given None = None
 unit_given (Some (Ok u)) = Some (Ok (unit_said u))
 unit_given (Some (Err e)) = Some (Err e)
 
+-- what a call gave out names the wire that the line says, or is refused as it is
 abbrev pub WireGiven : List (List ℕ) → Option (Result WireLine FileFault) → Option (Result Wire FileFault) → Type 0
 WireGiven known None None = Unit {0}
 WireGiven known None (Some s) = ⊥

@@ -18,7 +18,7 @@ use Rattle.lines.specs.declared.fault.LineFault.{LineFault}
 use Rattle.lines.specs.declared.fault.LineFault.TheVariants.{Letter, Disagree}
 use Rattle.lines.specs.Known.{same_text, unit_named}
 use Rattle.lines.specs.Fields.{fields, field}
-use Rattle.lines.specs.UnitLines.{UnitSaid, unit_line, unit_of_kind, with_name, design_at, field_count, kind_of_letter}
+use Rattle.lines.specs.UnitLines.{UnitSaid, unit_line, unit_of_kind, with_name, design_at, fields_of, kind_of_letter}
 use Rattle.lines.specs.WireLines.{Wire, wire_line, wire_at, wire_by_letter, wire_between}
 use Rattle.lines.specs.Headers.{cap_of}
 use Rattle.lines.proofs.Naming.{same_refl, same_true}
@@ -76,7 +76,7 @@ all_fields name (Integrator x lo hi m) = refl
 all_fields name (Gain a b c) = refl
 all_fields name (Constant v) = refl
 
-count_fields : (name : List ℕ) (d : Design) → length (told name d) ≡ field_count (kind_as d)
+count_fields : (name : List ℕ) (d : Design) → length (told name d) ≡ fields_of (kind_as d)
 count_fields name (Integrator x lo hi m) = refl
 count_fields name (Gain a b c) = refl
 count_fields name (Constant v) = refl
@@ -185,12 +185,12 @@ module _ (known : List (List ℕ)) (text : List ℕ) (u : UnitSaid) where
       by : (o : Option Kind) → kind_of_letter (field 1 text) ≡ o → unit_of_kind known text o ≡ Ok u → (unit_text u ≡ text) × ProperUnit known u
       by None l e = not_ok e
       by (Some k) l e =
-          let c = count_ok text u _ (field_count k) e in
+          let c = count_ok text u _ (fields_of k) e in
           let r = room_ok known _ u c.1 in
           let n = new_ok text u _ known 2 r.1 in
           let w = named_ok (field 2 text) (design_at k text) u n.2 in
           let d = design_ok text k u.design w.1 in
-          let same = c.0 ∙ sym (count_fields u.name u.design ∙ ap field_count d.kind) in (
+          let same = c.0 ∙ sym (count_fields u.name u.design ∙ ap fields_of d.kind) in (
             unit_text_lem u ∙ text_joined text (said u) same (ap letter_of d.kind ∙ letter_ok (field 1 text) k l, (sym w.0, d.reads)),
             record {
               room = r.0;
@@ -208,7 +208,7 @@ module _ (known : List (List ℕ)) (text : List ℕ) (u : UnitSaid) where
       let r = reads_joined text (said u) (sym (unit_text_lem u) ∙ e) (omega arith) (unit_plain known u proper) in
       let second = r.1.1.0 in
       ap (λ t. unit_of_kind known text (kind_of_letter t)) (sym r.1.0) ∙ (ap (unit_of_kind known text) (letter_on k)
-      ∙ (count_on text _ (field_count k) (r.0 ∙ count_fields u.name d) ∙ (room_on text _ known proper.room
+      ∙ (count_on text _ (fields_of k) (r.0 ∙ count_fields u.name d) ∙ (room_on text _ known proper.room
       ∙ (new_on text _ known 2 (ap is_name (sym second) ∙ proper.name) (ap (unit_named known) (sym second) ∙ proper.new)
       ∙ (ap (with_name (field 2 text)) (design_on text d r.1.1.1 proper.ranges proper.signals)
       ∙ ap (λ n. Ok (record { name = n; design = d })) (sym second))))))

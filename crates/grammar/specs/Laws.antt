@@ -15,6 +15,7 @@ abbrev pub InTurn : {T : Type 0} → (List T → T → Type 0) → List T → Li
 InTurn P before [] = Unit {0}
 InTurn P before (x ∷ xs) = P before x × InTurn P (before ++ x ∷ []) xs
 
+-- the text of a cap and units
 abbrev pub units_text : ℕ → List UnitSaid → List ℕ
 units_text n us = lines_text (cap_text n ∷ map unit_text us)
 
@@ -22,6 +23,7 @@ units_text n us = lines_text (cap_text n ∷ map unit_text us)
 abbrev pub ProperUnits : List UnitSaid → Type 0
 ProperUnits us = InTurn (λ before u. ProperUnit (names_said before) u) [] us
 
+-- read as these: then it is their text, and they are proper; and the other way round
 pub record UnitsLaw (bytes : List ℕ) (n : ℕ) (us : List UnitSaid) : Type 0 where
   pub only : units_file bytes ≡ Ok (record { most = n; units = us }) → (units_text n us ≡ bytes) × ProperCap n × ProperUnits us
   pub every : units_text n us ≡ bytes → ProperCap n → ProperUnits us → units_file bytes ≡ Ok (record { most = n; units = us })
@@ -30,6 +32,7 @@ pub record UnitsLaw (bytes : List ℕ) (n : ℕ) (us : List UnitSaid) : Type 0 w
 abbrev pub UnitsGrammar : List ℕ → Type 0
 UnitsGrammar bytes = (n : ℕ) (us : List UnitSaid) → UnitsLaw bytes n us
 
+-- the text of wires
 abbrev pub wires_text : List (List ℕ) → List Wire → List ℕ
 wires_text known ws = lines_text (codes "WIRES,1" ∷ map (wire_text known) ws)
 
@@ -37,6 +40,7 @@ wires_text known ws = lines_text (codes "WIRES,1" ∷ map (wire_text known) ws)
 abbrev pub ProperWires : List (List ℕ) → List Wire → Type 0
 ProperWires known ws = InTurn (λ before w. ProperWire known w × (supplier before w.to ≡ None)) [] ws
 
+-- read as these: then it is their text, and they are proper; and the other way round
 pub record WiresLaw (known : List (List ℕ)) (bytes : List ℕ) (ws : List Wire) : Type 0 where
   pub only : wires_file known bytes ≡ Ok ws → (wires_text known ws ≡ bytes) × ProperWires known ws
   pub every : wires_text known ws ≡ bytes → ProperWires known ws → wires_file known bytes ≡ Ok ws

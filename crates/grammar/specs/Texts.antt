@@ -53,6 +53,7 @@ name_in known u = slice_index_or known u []
 abbrev pub wire_fields : List (List ℕ) → Wire → List (List ℕ)
 wire_fields known w = codes "W" ∷ name_in known w.from.unit ∷ decimal w.from.port ∷ name_in known w.to.unit ∷ decimal w.to.port ∷ []
 
+-- the fields joined by commas
 abbrev pub wire_text : List (List ℕ) → Wire → List ℕ
 wire_text known w = joined_by 44 (wire_fields known w)
 
@@ -62,6 +63,7 @@ pub record ProperEnd (known : List (List ℕ)) (u port : ℕ) : Type 0 where
   pub unit : unit_named known (name_in known u) ≡ Some u
   pub within : port ≤ 7
 
+-- a wire between units that are there
 pub record ProperWire (known : List (List ℕ)) (w : Wire) : Type 0 where
   pub from : ProperEnd known w.from.unit w.from.port
   pub to : ProperEnd known w.to.unit w.to.port
@@ -79,13 +81,16 @@ WireGrammar = (known : List (List ℕ)) (text : List ℕ) (w : Wire) → WireLin
 abbrev pub cap_fields : ℕ → List (List ℕ)
 cap_fields n = codes "UNITS" ∷ codes "1" ∷ decimal n ∷ []
 
+-- the fields joined by commas
 abbrev pub cap_text : ℕ → List ℕ
 cap_text n = joined_by 44 (cap_fields n)
 
+-- a cap of 1 to 1,000,000
 pub record ProperCap (n : ℕ) : Type 0 where
   pub some : 1 ≤ n
   pub most : n ≤ 1000000
 
+-- a first line is read as a cap exactly where it is that cap's text
 pub record CapLaw (text : List ℕ) (n : ℕ) : Type 0 where
   pub only : cap_of text ≡ Some n → (cap_text n ≡ text) × ProperCap n
   pub every : cap_text n ≡ text → ProperCap n → cap_of text ≡ Some n

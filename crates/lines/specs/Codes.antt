@@ -6,6 +6,7 @@ use Rattle.lines.specs.declared.fault.LineFault.{LineFault}
 use Rattle.lines.specs.declared.fault.LineFault.TheVariants.{FirstLine, Letter, FieldCount, TooManyUnits, NotName, NameUsed, NoUnit, NotNumber, Disagree, WiredTwice}
 use Rattle.lines.specs.declared.fault.FileFault.{FileFault}
 
+-- the number of each cause
 abbrev pub fault_number : LineFault → ℕ
 fault_number FirstLine = 10
 fault_number Letter = 11
@@ -31,8 +32,10 @@ field_of TooManyUnits = None
 field_of (NoUnit k) = Some k
 field_of WiredTwice = None
 
+-- b
 abbrev pub fault_field : LineFault → ℕ
 fault_field e = unwrap_or (field_of e) 0
 
+-- the four numbers of a refusal
 abbrev pub code_of : FileFault → Code
 code_of f = record { number = fault_number f.fault; layer = 1; a = f.line; b = fault_field f.fault }

@@ -11,6 +11,7 @@ use Rattle.lines.specs.Known.{unit_named}
 abbrev pub fields : List ℕ → List (List ℕ)
 fields line = parts 44 line
 
+-- field k, empty where there is none
 abbrev pub field : ℕ → List ℕ → List ℕ
 field k line = slice_index_or (fields line) (k - 1) []
 

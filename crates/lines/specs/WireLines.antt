@@ -14,6 +14,7 @@ pub record Wire : Type 0 where
   pub from : Port
   pub to : Port
 
+-- a wire by what was read of its ends
 abbrev pub wire_between : ℕ → ℤ → ℕ → ℤ → Wire
 wire_between u o v i = record { from = record { unit = u; port = unsigned_abs o }; to = record { unit = v; port = unsigned_abs i } }
 
@@ -31,6 +32,7 @@ wire_by_letter known line [] = Err Letter
 wire_by_letter known line (b ∷ []) = cond (b == 87) (wire_at known line) (Err Letter)
 wire_by_letter known line (b ∷ d ∷ ds) = Err Letter
 
+-- a line of a wires file
 abbrev pub wire_line : List (List ℕ) → List ℕ → Result Wire LineFault
 wire_line known line = wire_by_letter known line (field 1 line)
 
@@ -39,6 +41,7 @@ pub record NamedPort : Type 0 where
   pub name : List ℕ
   pub port : ℕ
 
+-- an end, its name read
 abbrev pub end_said : End → NamedPort
 end_said e = record { name = e.name.now; port = e.port }
 
@@ -59,10 +62,12 @@ pub record IsEnd (known : List (List ℕ)) (said : NamedPort) (p : Port) : Type 
   pub unit : unit_named known said.name ≡ Some p.unit
   pub port : said.port ≡ p.port
 
+-- a line whose ends name those of a wire
 pub record Names (known : List (List ℕ)) (line : WireLine) (w : Wire) : Type 0 where
   pub from : IsEnd known (source_said line) w.from
   pub to : IsEnd known (target_said line) w.to
 
+-- what was read of a line names the wire that the line says, or is refused as it is
 abbrev pub WireRead : List (List ℕ) → Result WireLine LineFault → Result Wire LineFault → Type 0
 WireRead known (Ok line) (Ok w) = Names known line w
 WireRead known (Ok line) (Err e) = ⊥

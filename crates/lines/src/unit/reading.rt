@@ -2,7 +2,7 @@
 // Each field is taken by `let .. else` and not by `?`: a rule of the project.
 ghost use Rattle.std.specs.Prelude.{◌≡◌, ℕ};
 ghost use Rattle.file_rig.specs.Table.{names_of};
-ghost use Rattle.lines.specs.UnitLines.{kind_of_letter, field_count, integrator_at, gain_at, constant_at, with_name, unit_line, unit_read};
+ghost use Rattle.lines.specs.UnitLines.{kind_of_letter, fields_of, integrator_at, gain_at, constant_at, with_name, unit_line, unit_read};
 
 use super::super::fault::LineFault;
 use super::super::text::{field, field_count, name_in, number_within, unit_named};
@@ -28,7 +28,7 @@ fn kind_of(letter: &[u8]) -> Option<Kind>
 
 /// How many fields a line has whose letter stands for this kind.
 fn fields_of(kind: Kind) -> usize
-    ensures { result ≡ field_count kind }
+    ensures { result ≡ fields_of kind }
 {
     match kind {
         Kind::Integrator => 6,
