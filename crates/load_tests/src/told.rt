@@ -83,7 +83,7 @@ macro_rules! number {
 pub(crate) use number;
 
 /// Texts that are no numbers, whatever field they stand in.
-pub(crate) const NOT_NUMBERS: [&[u8]; 30] = [
+pub(crate) const NOT_NUMBERS: [&[u8]; 32] = [
     b"",
     b"-",
     b"--1",
@@ -114,6 +114,8 @@ pub(crate) const NOT_NUMBERS: [&[u8]; 30] = [
     b"-2147483649",
     b"4294967297",
     b"12345678901234567890",
+    b"18446744073709551617",
+    b"-18446744073709551615",
 ];
 
 /// A whole file: its text, what the load answers, and how many units or wires there are then.
@@ -228,8 +230,8 @@ pub(crate) fn check_files<D: Destination>(
     Ok(())
 }
 
-/// Loads a line that cannot be read after each beginning of a file, and with a fault that comes first: no line feed,
-/// a wrong letter, a field too many.
+/// Loads a line that cannot be read after each beginning of a file, and with faults that come first: no line feed,
+/// a wrong letter, both, a field too many.
 pub(crate) fn check_bad_line<D: Destination>(
     rt: &impl Abort,
     heap: Global,
@@ -252,6 +254,12 @@ pub(crate) fn check_bad_line<D: Destination>(
         }
         for last in [b"X", letter] {
             let answer = loaded(heap, into, &[before, last, line])?;
+            assert_eq!(rt; answer, refused(11, 0), "{line:?}");
+        }
+        let answer = loaded(heap, into, &[before, b"X", line, b"\n"])?;
+        assert_eq!(rt; answer, refused(11, 0), "{line:?}");
+        if !line.is_empty() {
+            let answer = loaded(heap, into, &[before, line])?;
             assert_eq!(rt; answer, refused(11, 0), "{line:?}");
         }
         if number > 12 {

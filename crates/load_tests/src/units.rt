@@ -164,7 +164,7 @@ const AFTER: [&[u8]; 4] = [b"", b"K,last,1\n", b"\n", b"X,Bad"];
 const SIXTEEN: &[u8] =
     b"UNITS,1,7\nK,b,1\nK,c,1\nK,d,1\nK,e,1\nK,f,1\nK,g,1\nK,h,1\nK,i,1\nK,j,1\nK,k,1\nK,l,1\nK,m,1\nK,n,1\nK,o,1\nK,used,4\nK,q,1\n";
 
-const BAD_LINES: [BadLine; 130] = [
+const BAD_LINES: [BadLine; 131] = [
     // The letter, or what stands for it.
     bad!(b"", 11, 0),
     bad!(b"A,a,1", 11, 0),
@@ -277,6 +277,7 @@ const BAD_LINES: [BadLine; 130] = [
     // More than one fault: the leftmost field counts, and all fields before x outside lo to hi.
     bad!(b"K,Bad,x", 14, 2),
     bad!(b"K,,", 14, 2),
+    bad!(b"G,used,0,1001,0", 15, 2),
     bad!(b"K,used,x", 15, 2),
     bad!(b"K,used,2147483648", 15, 2),
     bad!(b"G,Bad,1001,1001,x", 14, 2),
@@ -313,6 +314,10 @@ fn units_lines_refused(rt: HostRuntime) -> Result<(), Fail> {
         let first = if number > 12 { 16 } else { number };
         let answer = loaded(rt.alloc(), &mut rig, &[SIXTEEN, line, b"\n"])?;
         assert_eq!(rt; answer, (refused!(first, 1, 18, 0), 0), "{line:?}");
+        if !line.is_empty() {
+            let answer = loaded(rt.alloc(), &mut rig, &[SIXTEEN, line])?;
+            assert_eq!(rt; answer, (refused!(11, 1, 18, 0), 0), "{line:?}");
+        }
     }
     Ok(())
 }
