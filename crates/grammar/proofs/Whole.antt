@@ -31,7 +31,7 @@ parts_lines : (ts : List (List ℕ)) → AllByRecursion (Lacks 10) ts → parts 
 parts_lines [] a = refl
 parts_lines (t ∷ ts) a = parts_append 10 t (lines_text ts) a.0 ∙ ap (λ ps. t ∷ ps) (parts_lines ts a.1)
 
-joined_more : (t : List ℕ) (ps : List (List ℕ)) → 1 ≤ length ps → joined_by 10 (t ∷ ps) ≡ t ++ (10 ∷ joined_by 10 ps)
+pub joined_more : (t : List ℕ) (ps : List (List ℕ)) → 1 ≤ length ps → joined_by 10 (t ∷ ps) ≡ t ++ (10 ∷ joined_by 10 ps)
 joined_more t [] h = absurd (omega arith)
 joined_more t (p ∷ ps) h = refl
 

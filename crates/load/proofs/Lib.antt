@@ -1,3 +1,4 @@
 pub mod Reading
+pub mod Beginning
 pub mod AddingUnits
 pub mod AddingWires

@@ -127,6 +127,8 @@ module _ {X T : Type 0} (head : List ℕ → Option X) (body : X → List (List 
   -- the lines after the first, and where the cursor stands then
   pub record Headed (bytes : List ℕ) (x : X) : Type 0 where
     pub first : List ℕ
+    pub told : head first ≡ Some x
+    pub lines : ahead (start bytes) ≡ first ∷ ahead (passed (start bytes) (length first))
     pub after : after_heading head (start bytes) ≡ passed (start bytes) (length first)
     pub file : headed head body (parts 10 bytes) ≡ body x (ahead (passed (start bytes) (length first)))
 
@@ -138,6 +140,8 @@ module _ {X T : Type 0} (head : List ℕ → Option X) (body : X → List (List 
       let q = ahead_passed (start bytes) text (next ∷ later) (omega arith) e in
       record {
         first = text;
+        told = j;
+        lines = e ∙ ap (λ ps. text ∷ ps) (sym q);
         after = ap (λ ps. after_first head (start bytes) (front_of ps)) e
             ∙ ap (λ o. elim o as (λ _. Position) [ None ↦ stopped (start bytes) | Some y ↦ passed (start bytes) (length text) ]) j;
         file = ap (headed head body) e ∙ (ap (λ o. body_after o (λ y. body y (next ∷ later))) j ∙ ap (body x) (sym q));

@@ -8,7 +8,9 @@ use Rattle.wiring.specs.Wires.{source_of}
 use Rattle.lines.specs.declared.fault.FileFault.{FileFault}
 use Rattle.lines.specs.UnitLines.{UnitSaid}
 use Rattle.lines.specs.WireLines.{Wire}
-use Rattle.grammar.specs.Files.{names_said, judge_unit, lines_from, with_cap, units_file, supplier, wires_file}
+use Rattle.grammar.specs.Texts.{ProperCap}
+use Rattle.grammar.specs.Files.{names_said, units_file, supplier, wires_file}
+use Rattle.grammar.specs.Laws.{units_text, ProperUnits}
 use Rattle.load.specs.declared.fault.LoadFault.{LoadFault}
 use Rattle.load.specs.declared.fault.LoadFault.TheVariants.{Refused, NoMemory}
 
@@ -17,9 +19,15 @@ pub record HoldsUnits (rig : FileRig) (us : List UnitSaid) : Type 0 where
   pub units : units_of rig ≡ map (λ u. new_unit u.design) us
   pub names : names_of rig ≡ names_said us
 
--- memory is asked for once a line has said a unit
+-- a file begins with the text of a cap and of units, and this is the rest of it
+pub record Begins (bytes : List ℕ) (most : ℕ) (us : List UnitSaid) (rest : List ℕ) : Type 0 where
+  pub text : units_text most us ++ rest ≡ bytes
+  pub cap : ProperCap most
+  pub units : ProperUnits us
+
+-- memory is asked for once a line has said a unit: the file begins with the text of a cap and of one unit at least
 abbrev pub MemoryAsked : List ℕ → Type 0
-MemoryAsked bytes = (n l : ℕ) × (us : List UnitSaid) × (u : UnitSaid) × (lines : List (List ℕ)) × (units_file bytes ≡ with_cap n (lines_from judge_unit l (us ++ u ∷ []) lines))
+MemoryAsked bytes = (most : ℕ) × (us : List UnitSaid) × (u : UnitSaid) × (rest : List ℕ) × Begins bytes most (us ++ u ∷ []) rest
 
 -- the rig as a units file says, and its cap; or no unit, and the first line that cannot be read
 abbrev pub UnitsLoaded : List ℕ → Result ℕ LoadFault → FileRig → Type 0
