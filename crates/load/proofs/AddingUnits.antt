@@ -8,7 +8,7 @@ use Rattle.file_rig.specs.declared.table.FileRig.{FileRig}
 use Rattle.file_rig.specs.declared.table.fault.AddFault.{AddFault}
 use Rattle.file_rig.specs.declared.table.fault.AddFault.TheVariants.{TableFull, BadName, NameUsed, BadDesign, NoMemory}
 use Rattle.file_rig.specs.Table.{names_of}
-use Rattle.file_rig.specs.Adding.{Added, new_unit}
+use Rattle.file_rig.specs.Adding.{Extended, Added, new_unit}
 use Rattle.lines.specs.Known.{unit_named}
 use Rattle.lines.specs.UnitLines.{UnitSaid, unit_line}
 use Rattle.lines.proofs.Naming.{found_is}
@@ -17,7 +17,6 @@ use Rattle.grammar.specs.Texts.{ProperUnit}
 use Rattle.grammar.specs.Files.{lines_from, judge_unit, names_said}
 use Rattle.grammar.proofs.Accepted.{not_some}
 use Rattle.load.specs.Loaded.{HoldsUnits}
-use Rattle.load.specs.Filling.{OneUnitMore}
 use Rattle.load.proofs.Reading.{LineAhead, lines_on}
 
 -- a proper unit is refused only for want of memory
@@ -31,7 +30,7 @@ only_memory before after u name d en ed p (BadDesign f) a not = not_some (sym p.
 only_memory before after u name d en ed p NoMemory a not = not refl
 
 -- one unit more in the rig, and one more among those that the lines said
-pub held_more : (before after : FileRig) (us : List UnitSaid) (u : UnitSaid) → HoldsUnits before us → OneUnitMore before u after → HoldsUnits after (us ++ u ∷ [])
+pub held_more : (before after : FileRig) (us : List UnitSaid) (u : UnitSaid) → HoldsUnits before us → Extended before u.name (new_unit u.design) after → HoldsUnits after (us ++ u ∷ [])
 held_more before after us u h m = record {
   units = m.units ∙ (ap (λ xs. xs ++ new_unit u.design ∷ []) h.units ∙ sym (map_push (λ x. new_unit x.design) us u));
   names = m.names ∙ (ap (λ xs. xs ++ u.name ∷ []) h.names ∙ sym (map_push (λ x. x.name) us u));

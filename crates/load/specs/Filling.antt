@@ -1,8 +1,7 @@
 -- Loading in parts: one line added, and a table filled up to the first line that cannot be read.
-use Rattle.std.specs.Prelude.{◌≡◌, ℕ, ◌≤◌, List, [], ◌∷◌, ◌++◌, length, Some, None, Ok, Err, Result}
+use Rattle.std.specs.Prelude.{◌≡◌, ℕ, ◌≤◌, List, length, Some, None, Ok, Err, Result}
 use Rattle.file_rig.specs.declared.table.FileRig.{FileRig}
-use Rattle.file_rig.specs.Table.{units_of, names_of}
-use Rattle.file_rig.specs.Adding.{new_unit}
+use Rattle.file_rig.specs.Adding.{new_unit, Unchanged, Extended}
 use Rattle.wiring.specs.declared.port.Port.{Port}
 use Rattle.wiring.specs.declared.table.Wiring.{Wiring}
 use Rattle.wiring.specs.Wires.{source_of, OneMore}
@@ -18,15 +17,10 @@ use Rattle.load.specs.declared.fault.LoadFault.{LoadFault}
 use Rattle.load.specs.declared.fault.LoadFault.TheVariants.{Refused, NoMemory}
 use Rattle.load.specs.Loaded.{HoldsUnits, MemoryAsked, HoldsWires}
 
--- a rig with one unit more
-pub record OneUnitMore (before : FileRig) (u : UnitSaid) (after : FileRig) : Type 0 where
-  pub units : units_of after ≡ units_of before ++ new_unit u.design ∷ []
-  pub names : names_of after ≡ names_of before ++ u.name ∷ []
-
--- a line was added, or there was no memory for it
+-- a line was added; or there was no memory for it, and the table is as it was
 abbrev pub LineAdded : FileRig → UnitSaid → Result (Unit {0}) LoadFault → FileRig → Type 0
-LineAdded before u (Ok r) after = OneUnitMore before u after
-LineAdded before u (Err e) after = e ≡ NoMemory
+LineAdded before u (Ok r) after = Extended before u.name (new_unit u.design) after
+LineAdded before u (Err e) after = (e ≡ NoMemory) × Unchanged before after
 
 -- a rig filled by a whole file, or up to the first line that cannot be read
 abbrev pub UnitsFilled : List ℕ → Result ℕ LoadFault → FileRig → Type 0
@@ -38,10 +32,10 @@ UnitsFilled bytes (Err NoMemory) rig = MemoryAsked bytes
 abbrev pub Resolves : List (List ℕ) → WireLine → Type 0
 Resolves known line = (length known ≤ 16) × ((w : Wire) × Names known line w × ProperWire known w)
 
--- a wire was added, or its input is wired already
+-- a wire was added; or its input is wired already, and the wiring is as it was
 abbrev pub WireAdded : Wiring → Wire → Result (Unit {0}) LineFault → Wiring → Type 0
 WireAdded before w (Ok r) after = (source_of before w.to.unit w.to.port ≡ None) × OneMore before w.from w.to after
-WireAdded before w (Err e) after = (e ≡ WiredTwice) × ((p : Port) × (source_of before w.to.unit w.to.port ≡ Some p))
+WireAdded before w (Err e) after = (e ≡ WiredTwice) × ((p : Port) × (source_of before w.to.unit w.to.port ≡ Some p)) × (after ≡ before)
 
 -- a wiring filled by a whole file, or up to the first line that cannot be read
 abbrev pub WiresFilled : List (List ℕ) → List ℕ → Result (Unit {0}) FileFault → Wiring → Type 0

@@ -43,7 +43,7 @@ pub returns-in_err-add_line : goal.returns-in_err-add_line
 returns-in_err-add_line c =
     let r = (goal.at.returns-in_err-add_line c).In_ok-line in
     record {
-      filled = subst (λ r. UnitsFilled c.args.bytes.now r c.add_line.new.rig) (sym (err_given _ _ c.from_residual-in_err-add_line.ensures.1 ∙ ap (λ e. Err e) c.in_err-add_line.ensures))
+      filled = subst (λ r. UnitsFilled c.args.bytes.now r c.add_line.new.rig) (sym (err_given _ _ c.from_residual-in_err-add_line.ensures.1 ∙ ap (λ e. Err e) c.in_err-add_line.ensures.0))
           (c.in_ok-most.most, c.loop-answer.invariant.0, unit_said c.in_ok-line.line, _, unit_begun r);
       grammar = units_law c.args.bytes.now;
     }
