@@ -145,7 +145,11 @@ fn command_line(rt: &HostRuntime) -> io::Result<Vec<String>> {
 
 /// Does what the words of the command line say.
 fn run(rt: &HostRuntime) -> Result<(), Stop> {
-    let words = command_line(rt)?;
+    let words = command_line(rt).map_err(|error| match error.kind() {
+        // Words that are no text are wrong words too.
+        io::ErrorKind::InvalidData => told(rt.eprintln(USAGE)),
+        _ => Stop::from(error),
+    })?;
     match words.as_slice() {
         [_, command, units, wires] if command.as_str() == "check" => {
             check(rt, units.as_str(), wires.as_str())

@@ -1,3 +1,4 @@
+// Text parted by a separator: where it stands, how many parts there are, and each part.
 ghost use Rattle.std.specs.Prelude.{◌≡◌, ◌-◌, [], length, slice_index_or};
 ghost use Rattle.std.specs.List.{slice_get};
 ghost use Rattle.std.specs.Option.{option_copied};

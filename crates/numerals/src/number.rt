@@ -1,3 +1,4 @@
+// Numbers as files write them.
 ghost use Rattle.std.specs.Prelude.{◌≡◌, ◌-◌, [], ◌∷◌, pos, negsuc};
 ghost use Rattle.std.specs.Option.{option_map};
 ghost use Rattle.numerals.specs.Numbers.{Says, number_of, whole_in, read_in};

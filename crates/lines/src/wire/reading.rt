@@ -10,6 +10,7 @@ use super::{End, WireLine};
 use file_rig::table::FileRig;
 
 /// A unit's name in one field, and a port in the next.
+// The ends stand in fields 2 and 4: below 5 the next field has a number.
 fn read_end<'a>(line: &'a [u8], known: &FileRig, number: usize) -> Result<End<'a>, LineFault>
     requires { number < 5 }
     ensures { EndRead (names_of known.now) number line.now result }

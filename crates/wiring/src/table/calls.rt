@@ -1,3 +1,4 @@
+// Wires by the inputs that they lead to.
 ghost use Rattle.std.specs.Prelude.{◌≡◌, ℕ, ◌≤◌, None, Decides};
 ghost use Rattle.wiring.specs.Wires.{source_of, InRange, OneMore, Added};
 
