@@ -1,5 +1,5 @@
 -- A line is read exactly when it is the one text of what it says.
-use Rattle.std.proofs.Common.{◌≡◌, ℕ, suc, ◌≤◌, Bool, true, false, cond, ◌&&◌, eqb, leb, ◌⊎◌, List, [], ◌∷◌, length, ℤ, pos, negsuc, nat_abs, Some, None, Ok, Err, codes, decimal, Option, Result, sym, refl, ap, ◌∙◌, subst, inl, inr, ⊎_elim, arith, rules}
+use Rattle.std.proofs.Common.{◌≡◌, ℕ, ◌≤◌, Bool, true, false, cond, ◌&&◌, eqb, leb, ◌⊎◌, List, [], ◌∷◌, length, ℤ, pos, negsuc, nat_abs, Some, None, Ok, Err, codes, decimal, Option, Result, sym, refl, ap, ◌∙◌, subst, inl, inr, ⊎_elim, arith, rules}
 use lib.Signed.{le_z}
 use Rattle.std.specs.Option.{option_map}
 use Rattle.std.specs.Fmt.{signed_decimal}
@@ -14,6 +14,7 @@ use Rattle.kinds.specs.declared.design.Design.{Design}
 use Rattle.kinds.specs.declared.design.Design.TheVariants.{Integrator, Gain, Constant}
 use Rattle.kinds.specs.Designs.{design_fault, is_factor, kind_as}
 use Rattle.names.specs.Naming.{is_name}
+use Rattle.file_rig.specs.Adding.{FoundAt}
 use Rattle.lines.specs.declared.fault.LineFault.{LineFault}
 use Rattle.lines.specs.declared.fault.LineFault.TheVariants.{Letter, Disagree}
 use Rattle.lines.specs.Known.{same_text, unit_named}
@@ -21,8 +22,8 @@ use Rattle.lines.specs.Fields.{fields, field}
 use Rattle.lines.specs.UnitLines.{UnitSaid, unit_line, unit_of_kind, with_name, design_at, fields_of, kind_of_letter}
 use Rattle.lines.specs.WireLines.{Wire, wire_line, wire_at, wire_by_letter, wire_between}
 use Rattle.lines.specs.Headers.{cap_of}
-use Rattle.lines.proofs.Naming.{same_refl, same_true}
-use Rattle.grammar.specs.Texts.{unit_fields, unit_text, Signals, ProperUnit, UnitLineLaw, name_in, wire_fields, wire_text, ProperEnd, ProperWire, WireLineLaw, cap_fields, cap_text, ProperCap, CapLaw}
+use Rattle.lines.proofs.Naming.{same_refl, same_true, found_is, found_named}
+use Rattle.grammar.specs.Texts.{unit_fields, unit_text, Signals, ProperUnit, UnitLineLaw, name_of, wire_fields, wire_text, ProperEnd, ProperWire, WireLineLaw, cap_fields, cap_text, ProperCap, CapLaw}
 use Rattle.grammar.proofs.Accepted.{not_ok, not_some, test_ok, test_some, mapped_some, Writes, within_some, some_within, writes_in, natural_writes, writes_natural, count_ok, room_ok, new_ok, known_ok, number_ok, within_ok, count_on, room_on, new_on, known_on, number_on, within_on}
 use Rattle.grammar.proofs.Plain.{Plain, name_plain, number_plain, decimal_plain, joined_feedless, Reads, reads_all, reads_joined}
 
@@ -195,7 +196,7 @@ module _ (known : List (List ℕ)) (text : List ℕ) (u : UnitSaid) where
             record {
               room = r.0;
               name = ap is_name (sym w.0) ∙ n.0;
-              new = ap (unit_named known) (sym w.0) ∙ n.1;
+              new = found_named u.name known None (ap (unit_named known) (sym w.0) ∙ n.1);
               ranges = d.ranges;
               signals = d.signals;
             },
@@ -209,7 +210,7 @@ module _ (known : List (List ℕ)) (text : List ℕ) (u : UnitSaid) where
       let second = r.1.1.0 in
       ap (λ t. unit_of_kind known text (kind_of_letter t)) (sym r.1.0) ∙ (ap (unit_of_kind known text) (letter_on k)
       ∙ (count_on text _ (fields_of k) (r.0 ∙ count_fields u.name d) ∙ (room_on text _ known proper.room
-      ∙ (new_on text _ known 2 (ap is_name (sym second) ∙ proper.name) (ap (unit_named known) (sym second) ∙ proper.new)
+      ∙ (new_on text _ known 2 (ap is_name (sym second) ∙ proper.name) (ap (unit_named known) (sym second) ∙ sym (found_is u.name known None proper.new))
       ∙ (ap (with_name (field 2 text)) (design_on text d r.1.1.1 proper.ranges proper.signals)
       ∙ ap (λ n. Ok (record { name = n; design = d })) (sym second))))))
 
@@ -223,18 +224,12 @@ unit_proper known text u e = (unit_only known text u e).1
 -- ---- a wire's line
 
 -- a unit that is found by a name has this name
-pub named_is : (ns : List (List ℕ)) (name : List ℕ) (u : ℕ) → unit_named ns name ≡ Some u → name_in ns u ≡ name
-named_is [] name u e = not_some e
-named_is (n ∷ ns) name u e = by (same_text n name) refl e (named_is ns name)
-  where
-    by : (b : Bool) → same_text n name ≡ b → cond b (Some 0) (option_map suc (unit_named ns name)) ≡ Some u
-        → ((v : ℕ) → unit_named ns name ≡ Some v → name_in ns v ≡ name) → name_in (n ∷ ns) u ≡ name
-    by true t h later = let z : 0 ≡ u = cc in ap (name_in (n ∷ ns)) (sym z) ∙ same_true n name t
-    by false t h later = let m = mapped_some suc (unit_named ns name) u h in ap (name_in (n ∷ ns)) (sym m.2) ∙ later m.0 m.1
+pub named_is : (ns : List (List ℕ)) (name : List ℕ) (u : ℕ) → unit_named ns name ≡ Some u → name_of ns u ≡ name
+named_is ns name u e = (found_named name ns (Some u) e).1
 
 end_proper : (known : List (List ℕ)) (name : List ℕ) (u port : ℕ) → is_name name ≡ true → unit_named known name ≡ Some u → port ≤ 7 → ProperEnd known u port
 end_proper known name u port n e h =
-    let s = named_is known name u e in record { name = ap is_name s ∙ n; unit = ap (unit_named known) s ∙ e; within = h }
+    let s = named_is known name u e in record { name = ap is_name s ∙ n; unit = subst (λ t. FoundAt known t (Some u)) (sym s) (found_named name known (Some u) e); within = h }
 
 module _ (known : List (List ℕ)) (w : Wire) (proper : ProperWire known w) where
   wire_plain : AllByRecursion Plain (wire_fields known w)
@@ -278,9 +273,9 @@ module _ (known : List (List ℕ)) (text : List ℕ) (w : Wire) where
       let o = writes_natural 0 7 w.from.port (field 3 text) (omega arith) r.1.1.1.0 (omega arith) f.within in
       let i = writes_natural 0 7 w.to.port (field 5 text) (omega arith) r.1.1.1.1.1.0 (omega arith) t.within in
       ap (wire_by_letter known text) (sym r.1.0) ∙ (count_on text _ 5 r.0
-      ∙ (known_on text 2 known _ w.from.unit (ap is_name (sym one) ∙ f.name) (ap (unit_named known) (sym one) ∙ f.unit)
+      ∙ (known_on text 2 known _ w.from.unit (ap is_name (sym one) ∙ f.name) (ap (unit_named known) (sym one) ∙ sym (found_is _ known (Some w.from.unit) f.unit))
       ∙ (within_on text 3 _ (pos 0) (pos 7) (pos w.from.port) o
-      ∙ (known_on text 4 known _ w.to.unit (ap is_name (sym two) ∙ t.name) (ap (unit_named known) (sym two) ∙ t.unit)
+      ∙ (known_on text 4 known _ w.to.unit (ap is_name (sym two) ∙ t.name) (ap (unit_named known) (sym two) ∙ sym (found_is _ known (Some w.to.unit) t.unit))
       ∙ within_on text 5 _ (pos 0) (pos 7) (pos w.to.port) i))))
 
 -- a line is read as a wire exactly where it is that wire's text, and the wire is then a proper one

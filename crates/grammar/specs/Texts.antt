@@ -6,8 +6,8 @@ use Rattle.kinds.specs.declared.design.Design.{Design}
 use Rattle.kinds.specs.declared.design.Design.TheVariants.{Integrator, Gain, Constant}
 use Rattle.kinds.specs.Designs.{design_fault}
 use Rattle.names.specs.Naming.{is_name}
+use Rattle.file_rig.specs.Adding.{FoundAt}
 use Rattle.numerals.specs.Numbers.{IsSignal}
-use Rattle.lines.specs.Known.{unit_named}
 use Rattle.lines.specs.UnitLines.{UnitSaid, unit_line}
 use Rattle.lines.specs.WireLines.{Wire, wire_line}
 use Rattle.lines.specs.Headers.{cap_of}
@@ -32,7 +32,7 @@ Signals (Constant v) = IsSignal v
 pub record ProperUnit (known : List (List ℕ)) (u : UnitSaid) : Type 0 where
   pub room : length known < 16
   pub name : is_name u.name ≡ true
-  pub new : unit_named known u.name ≡ None
+  pub new : FoundAt known u.name None
   pub ranges : design_fault u.design ≡ None
   pub signals : Signals u.design
 
@@ -46,21 +46,21 @@ abbrev pub UnitGrammar : Type 0
 UnitGrammar = (known : List (List ℕ)) (text : List ℕ) (u : UnitSaid) → UnitLineLaw known text u
 
 -- the name of a unit
-abbrev pub name_in : List (List ℕ) → ℕ → List ℕ
-name_in known u = slice_index_or known u []
+abbrev pub name_of : List (List ℕ) → ℕ → List ℕ
+name_of known u = slice_index_or known u []
 
 -- the fields of a wire's line
 abbrev pub wire_fields : List (List ℕ) → Wire → List (List ℕ)
-wire_fields known w = codes "W" ∷ name_in known w.from.unit ∷ decimal w.from.port ∷ name_in known w.to.unit ∷ decimal w.to.port ∷ []
+wire_fields known w = codes "W" ∷ name_of known w.from.unit ∷ decimal w.from.port ∷ name_of known w.to.unit ∷ decimal w.to.port ∷ []
 
 -- the fields joined by commas
 abbrev pub wire_text : List (List ℕ) → Wire → List ℕ
 wire_text known w = joined_by 44 (wire_fields known w)
 
--- a unit that is found by its name
+-- an end of a wire: the lowest unit with its name, and a port
 pub record ProperEnd (known : List (List ℕ)) (u port : ℕ) : Type 0 where
-  pub name : is_name (name_in known u) ≡ true
-  pub unit : unit_named known (name_in known u) ≡ Some u
+  pub name : is_name (name_of known u) ≡ true
+  pub unit : FoundAt known (name_of known u) (Some u)
   pub within : port ≤ 7
 
 -- a wire between units that are there

@@ -1,5 +1,5 @@
 -- Units added line by line.
-use Rattle.std.proofs.Common.{◌≡◌, ℕ, ◌+◌, List, [], ◌∷◌, ◌++◌, length, Some, Ok, Err, sym, refl, ap, ◌∙◌, arith}
+use Rattle.std.proofs.Common.{◌≡◌, ℕ, ◌+◌, List, [], ◌∷◌, ◌++◌, length, Ok, Err, sym, refl, ap, ◌∙◌, arith}
 use Rattle.std.proofs.lemmas.List.{map_push}
 use Rattle.std.proofs.lemmas.Bool.{true≢false}
 use Rattle.kinds.specs.declared.design.Design.{Design}
@@ -9,9 +9,7 @@ use Rattle.file_rig.specs.declared.table.fault.AddFault.{AddFault}
 use Rattle.file_rig.specs.declared.table.fault.AddFault.TheVariants.{TableFull, BadName, NameUsed, BadDesign, NoMemory}
 use Rattle.file_rig.specs.Table.{names_of}
 use Rattle.file_rig.specs.Adding.{Extended, Added, new_unit}
-use Rattle.lines.specs.Known.{unit_named}
 use Rattle.lines.specs.UnitLines.{UnitSaid, unit_line}
-use Rattle.lines.proofs.Naming.{found_is}
 use Rattle.files.specs.Positions.{Position, ahead, passed}
 use Rattle.grammar.specs.Texts.{ProperUnit}
 use Rattle.grammar.specs.Files.{lines_from, judge_unit, names_said}
@@ -24,8 +22,7 @@ pub only_memory : (before after : FileRig) (u : UnitSaid) (name : List ℕ) (d :
     → (e : AddFault) → Added before name d (Err e) after → (e ≡ NoMemory → ⊥) → ⊥
 only_memory before after u name d en ed p TableFull a not = omega (arith, a.0, p.room)
 only_memory before after u name d en ed p BadName a not = let b = a.1 in let t = p.name in true≢false cc
-only_memory before after u name d en ed p NameUsed a not =
-    not_some (sym p.new ∙ (ap (unit_named (names_of before)) (sym en) ∙ sym (found_is name (names_of before) (Some a.1.0) a.1.1)))
+only_memory before after u name d en ed p NameUsed a not = p.new a.1.0 a.1.1.0 (a.1.1.1 ∙ en)
 only_memory before after u name d en ed p (BadDesign f) a not = not_some (sym p.ranges ∙ (ap design_fault (sym ed) ∙ a.1))
 only_memory before after u name d en ed p NoMemory a not = not refl
 

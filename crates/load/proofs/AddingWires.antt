@@ -1,7 +1,6 @@
 -- Wires added line by line.
-use Rattle.std.proofs.Common.{◌≡◌, ℕ, suc, ◌+◌, ◌<◌, ◌≤◌, Bool, true, false, cond, ◌&&◌, eqb, List, [], ◌∷◌, ◌++◌, length, Some, None, Ok, Err, vec_items, Option, Result, sym, refl, ap, ◌∙◌, subst, ⊎_elim, arith}
+use Rattle.std.proofs.Common.{◌≡◌, ℕ, ◌+◌, ◌≤◌, Bool, true, false, cond, ◌&&◌, eqb, List, [], ◌∷◌, ◌++◌, length, Some, None, Ok, Err, vec_items, Option, Result, sym, refl, ap, ◌∙◌, subst, ⊎_elim, arith}
 use Rattle.std.proofs.lemmas.Bool.{eq-eqb, ne_eqb, cases_eq}
-use Rattle.std.specs.Option.{option_map}
 use Rattle.std.proofs.lemmas.List.{length-map}
 use Rattle.file_rig.specs.declared.table.FileRig.{FileRig}
 use Rattle.file_rig.specs.Table.{labels_of, names_of}
@@ -14,8 +13,8 @@ use Rattle.wiring.specs.Wires.{source_of, InRange, OneMore, Added}
 use Rattle.lines.specs.declared.fault.LineFault.TheVariants.{WiredTwice}
 use Rattle.lines.specs.declared.fault.FileFault.{FileFault}
 use Rattle.lines.specs.declared.wire.WireLine.{WireLine}
-use Rattle.lines.specs.Known.{same_text, unit_named}
 use Rattle.lines.specs.WireLines.{Wire, wire_line, NamedPort, IsEnd, source_said, target_said, Names}
+use Rattle.lines.proofs.Naming.{found_named}
 use Rattle.files.specs.Positions.{Position, ahead, passed}
 use Rattle.files.specs.Reading.{answer_at, WireGiven}
 use Rattle.grammar.specs.Texts.{ProperWire}
@@ -24,25 +23,11 @@ use Rattle.grammar.proofs.Accepted.{not_some}
 use Rattle.load.specs.Loaded.{HoldsWires}
 use Rattle.load.proofs.Reading.{LineAhead, line_ahead, lines_on}
 
--- a unit that has a name is there
-below_in : (ns : List (List ℕ)) (name : List ℕ) (b : Bool) (u : ℕ) → ((v : ℕ) → unit_named ns name ≡ Some v → v < length ns)
-    → cond b (Some 0) (option_map suc (unit_named ns name)) ≡ Some u → u < suc (length ns)
-below_in ns name true u rec e = let z : 0 ≡ u = cc in omega arith
-below_in ns name false u rec e = by_rest (unit_named ns name) rec e
-  where
-    by_rest : (o : Option ℕ) → ((v : ℕ) → o ≡ Some v → v < length ns) → option_map suc o ≡ Some u → u < suc (length ns)
-    by_rest None r e = not_some e
-    by_rest (Some v) r e = let z : suc v ≡ u = cc in let l = r v refl in omega arith
-
-named_below : (ns : List (List ℕ)) (name : List ℕ) (u : ℕ) → unit_named ns name ≡ Some u → u < length ns
-named_below [] name u e = not_some e
-named_below (n ∷ ns) name u e = below_in ns name (same_text n name) u (named_below ns name) e
-
 -- an end that a line names, found by its name, is within 16 units of 8 ports
 module _ (known : List (List ℕ)) (few : length known ≤ 16) where
   end_within : (said other : NamedPort) (p q : Port) → p.port ≤ 7 → IsEnd known said p → other ≡ said → IsEnd known other q → (q.unit ≤ 15) × (q.port ≤ 7)
   end_within said other p q h i same e =
-      let b = named_below known other.name q.unit e.unit in let x = e.port in let y = i.port in let z = ap (λ s. s.port) same in (omega arith, omega arith)
+      let b = (found_named other.name known (Some q.unit) e.unit).0 in let x = e.port in let y = i.port in let z = ap (λ s. s.port) same in (omega arith, omega arith)
 
   pub ends_within : (line : WireLine) (w : Wire) → Names known line w → ProperWire known w → (f : NamedPort) → f ≡ source_said line → (from : Port) → IsEnd known f from
       → (t : NamedPort) → t ≡ target_said line → (to : Port) → IsEnd known t to → InRange from to
