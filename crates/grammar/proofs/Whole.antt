@@ -14,7 +14,7 @@ use Rattle.lines.specs.WireLines.{Wire, wire_line}
 use Rattle.lines.specs.Headers.{cap_of, is_wires, wires_head}
 use Rattle.lines.proofs.Naming.{same_true}
 use Rattle.grammar.specs.Texts.{unit_text, ProperUnit, wire_text, ProperWire, cap_text}
-use Rattle.grammar.specs.Files.{fault_at, onward, lines_from, after_first, headed, UnitsSaid, names_said, judge_unit, with_cap, units_file, supplier, if_unwired, once_only, judge_wire, wires_file}
+use Rattle.grammar.specs.Files.{fault_at, onward, lines_from, if_first, headed, UnitsSaid, names_said, judge_unit, with_cap, units_file, supplier, if_unwired, once_only, judge_wire, wires_file}
 use Rattle.grammar.specs.Laws.{lines_text, InTurn, UnitsLaw, WiresLaw}
 use Rattle.grammar.proofs.Accepted.{not_ok, test_ok, test_some}
 use Rattle.grammar.proofs.Lines.{unit_line_law, unit_feedless, wire_line_law, wire_feedless, cap_law, cap_feedless}
@@ -45,7 +45,7 @@ lines_parts ts bytes e = sym (joined_ended ts) ∙ (ap (joined_by 10) e ∙ join
 -- ---- the first line, and what comes of the lines after it
 
 module _ {X R : Type 0} (head : List ℕ → Option X) (body : X → List (List ℕ) → Result R FileFault) where
-  after_ok : (o : Option X) (next : X → Result R FileFault) (r : R) → after_first o next ≡ Ok r → (x : X) × (o ≡ Some x) × (next x ≡ Ok r)
+  after_ok : (o : Option X) (next : X → Result R FileFault) (r : R) → if_first o next ≡ Ok r → (x : X) × (o ≡ Some x) × (next x ≡ Ok r)
   after_ok None next r e = not_ok e
   after_ok (Some x) next r e = (x, refl, e)
 
@@ -58,7 +58,7 @@ module _ {X R : Type 0} (head : List ℕ → Option X) (body : X → List (List 
 
   headed_on : (first : List ℕ) (rest : List (List ℕ)) (x : X) → 1 ≤ length rest → head first ≡ Some x → headed head body (first ∷ rest) ≡ body x rest
   headed_on first [] x h e = absurd (omega arith)
-  headed_on first (next ∷ later) x h e = ap (λ o. after_first o (λ y. body y (next ∷ later))) e
+  headed_on first (next ∷ later) x h e = ap (λ o. if_first o (λ y. body y (next ∷ later))) e
 
   first_on : (first : List ℕ) (ts : List (List ℕ)) (x : X) → AllByRecursion (Lacks 10) (first ∷ ts) → head first ≡ Some x
       → headed head body (parts 10 (lines_text (first ∷ ts))) ≡ body x (ended ts)

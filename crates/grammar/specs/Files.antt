@@ -27,15 +27,15 @@ module _ {T : Type 0} (judge : List T → List ℕ → Result T LineFault) where
   lines_from l said (text ∷ next ∷ later) = onward l (judge said text) (λ x. lines_from (l + 1) (said ++ x ∷ []) (next ∷ later))
 
 -- the first line, if it is as it should be and a line feed ends it, and what comes of the lines after it
-abbrev pub after_first : {X T : Type 0} → Option X → (X → Result T FileFault) → Result T FileFault
-after_first None next = Err (fault_at 1 FirstLine)
-after_first (Some x) next = next x
+abbrev pub if_first : {X T : Type 0} → Option X → (X → Result T FileFault) → Result T FileFault
+if_first None next = Err (fault_at 1 FirstLine)
+if_first (Some x) next = next x
 
 -- a file as its first line and the lines after it
 abbrev pub headed : {X T : Type 0} → (List ℕ → Option X) → (X → List (List ℕ) → Result T FileFault) → List (List ℕ) → Result T FileFault
 headed head body [] = Err (fault_at 1 FirstLine)
 headed head body (rest ∷ []) = Err (fault_at 1 FirstLine)
-headed head body (first ∷ next ∷ later) = after_first (head first) (λ x. body x (next ∷ later))
+headed head body (first ∷ next ∷ later) = if_first (head first) (λ x. body x (next ∷ later))
 
 -- a units file says a cap and units
 pub record UnitsSaid : Type 0 where

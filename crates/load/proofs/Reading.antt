@@ -11,7 +11,7 @@ use Rattle.lines.specs.declared.fault.FileFault.{FileFault}
 use Rattle.files.specs.Positions.{Position, start, ahead, front_of, passed, stopped}
 use Rattle.files.specs.Heading.{bad_first, heading_in, heading_at, after_first, after_heading}
 use Rattle.files.specs.Reading.{on_line, answer_to, answer_at, after_front, after_at}
-use Rattle.grammar.specs.Files.{fault_at, onward, lines_from, headed, after_first as body_after}
+use Rattle.grammar.specs.Files.{fault_at, onward, lines_from, headed, if_first}
 use Rattle.grammar.proofs.Accepted.{not_ok, not_some}
 use Rattle.grammar.proofs.Whole.{lines_more}
 
@@ -108,7 +108,7 @@ module _ {X T : Type 0} (head : List ℕ → Option X) (body : X → List (List 
   head_fault true f e = cc
   head_fault false f e = cc
 
-  after_none : (o : Option X) (f : FileFault) (ps : List (List ℕ)) → ok_or o (bad_first 1) ≡ Err f → body_after o (λ x. body x ps) ≡ Err f
+  after_none : (o : Option X) (f : FileFault) (ps : List (List ℕ)) → ok_or o (bad_first 1) ≡ Err f → if_first o (λ x. body x ps) ≡ Err f
   after_none None f ps e = cc
   after_none (Some x) f ps e = not_ok (sym e)
 
@@ -144,7 +144,7 @@ module _ {X T : Type 0} (head : List ℕ → Option X) (body : X → List (List 
         lines = e ∙ ap (λ ps. text ∷ ps) (sym q);
         after = ap (λ ps. after_first head (start bytes) (front_of ps)) e
             ∙ ap (λ o. elim o as (λ _. Position) [ None ↦ stopped (start bytes) | Some y ↦ passed (start bytes) (length text) ]) j;
-        file = ap (headed head body) e ∙ (ap (λ o. body_after o (λ y. body y (next ∷ later))) j ∙ ap (body x) (sym q));
+        file = ap (headed head body) e ∙ (ap (λ o. if_first o (λ y. body y (next ∷ later))) j ∙ ap (body x) (sym q));
       }
 
   pub head_read : (bytes : List ℕ) (x : X) → Ok x ≡ heading_at head (start bytes) → Headed bytes x
