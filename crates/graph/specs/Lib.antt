@@ -1,0 +1,4 @@
+pub mod Order
+pub mod Placing
+pub mod Copied
+pub mod Found
