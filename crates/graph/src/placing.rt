@@ -11,12 +11,7 @@ pub(crate) fn open_feeder(arcs: &Arcs, marks: &[u8], node: usize) -> Option<usiz
     requires { (node < arcs.now.count) × (length marks.now ≡ 64) }
     ensures { MatchOption result (Closed (fed arcs.now) arcs.now.count marks.now node) (λ u. Feeder (fed arcs.now) arcs.now.count marks.now node u) }
 {
-    for feeder in 0..arcs.count {
-        if marks[feeder] != 1 && arcs.feeds(feeder, node) {
-            return Some(feeder);
-        }
-    }
-    None
+    (0..arcs.count).find(|&feeder| marks[feeder] != 1 && arcs.feeds(feeder, node))
 }
 
 /// The lowest-numbered node that is open and whose feeders are all placed.
@@ -24,12 +19,7 @@ fn first_ready(arcs: &Arcs, marks: &[u8]) -> Option<usize>
     requires { length marks.now ≡ 64 }
     ensures { MatchOption result (NoneReady (fed arcs.now) arcs.now.count marks.now arcs.now.count) (λ v. FirstReady (fed arcs.now) arcs.now.count marks.now v) }
 {
-    for node in 0..arcs.count {
-        if marks[node] == 0 && open_feeder(arcs, marks, node).is_none() {
-            return Some(node);
-        }
-    }
-    None
+    (0..arcs.count).find(|&node| marks[node] == 0 && open_feeder(arcs, marks, node).is_none())
 }
 
 /// The lowest-numbered of the first `count` nodes that is open.
@@ -37,12 +27,7 @@ fn first_open(marks: &[u8], count: usize) -> Option<usize>
     requires { count ≤ length marks.now }
     ensures { MatchOption result ((v : ℕ) → v < count → slice_index marks.now v ≢ 0) (λ v. (v < count) × (slice_index marks.now v ≡ 0)) }
 {
-    for node in 0..count {
-        if marks[node] == 0 {
-            return Some(node);
-        }
-    }
-    None
+    marks.iter().take(count).position(|mark| *mark == 0)
 }
 
 /// Places node after node, each time the lowest-numbered that is ready. Some node is left over where there is a circle.
