@@ -1,9 +1,10 @@
 -- A walk back over open feeders: the path p from t on, with 2 in the marks m at each of its nodes.
-use Rattle.std.proofs.Common.{◌≡◌, ℕ, suc, ◌+◌, ◌-◌, ◌<◌, ◌≤◌, Bool, true, cond, eqb, ◌≢◌, List, length, get_or, set, sum_by, sym, ap, ◌∙◌, ⊎_elim, arith, length-set, get_or-set_other, get_or-set_same}
+use Rattle.std.proofs.Common.{◌≡◌, ℕ, suc, ◌+◌, ◌-◌, ◌<◌, ◌≤◌, Bool, true, cond, eqb, ◌≢◌, List, length, take, drop, get_or, set, sum_by, sym, ap, ◌∙◌, ⊎_elim, arith, length-set, get_or-set_other, get_or-set_same}
 use Rattle.std.proofs.lemmas.List.Sums.{sum_by-set, get_or-le-sum_by, count_by-le-length}
+use Rattle.std.proofs.lemmas.List.{get_or-take, get_or-drop, length-take-le, length-drop}
 use Rattle.std.proofs.lemmas.Bool.{cases_eq}
 use Rattle.graph.specs.Order.{IsCircle, Shown}
-use Rattle.graph.specs.Placing.{Feeder, Closed, Stuck, Taken}
+use Rattle.graph.specs.Placing.{Feeder, Closed, Stuck, Lacks, Taken}
 
 abbrev pub is_zero : ℕ → ℕ
 is_zero x = cond (eqb x 0) 1 0
@@ -183,9 +184,36 @@ begin f n m p a few ml pl an z st sm = record {
   head = λ h. absurd (omega arith);
 }
 
+-- the path from its head on
+abbrev path_from : List ℕ → ℕ → List ℕ
+path_from p t = take (64 - t) (drop t p)
+
+length_from : (p : List ℕ) (t : ℕ) → length p ≡ 64 → length (path_from p t) ≡ 64 - t
+length_from p t long = length-take-le (64 - t) (drop t p) (omega (arith, length-drop t p))
+
+at_from : (p : List ℕ) (t i : ℕ) → t + i < 64 → get_or (path_from p t) i 0 ≡ get_or p (t + i) 0
+at_from p t i lt = get_or-take (64 - t) (drop t p) i 0 (omega arith) ∙ get_or-drop t p i 0
+
+-- the path is short enough to be copied
+pub short_from : (f : ℕ → ℕ → Bool) (n : ℕ) (m p : List ℕ) (t a : ℕ) → Walked f n m p t a → length (path_from p t) ≤ 64
+short_from f n m p t a w = omega (arith, length_from p t w.plong)
+
+-- a node with mark 2 stands on the path
+pub on_path : (f : ℕ → ℕ → Bool) (n : ℕ) (m p : List ℕ) (t a u : ℕ) → Walked f n m p t a → get_or m u 0 ≡ 2 → Lacks (path_from p t) u → ⊥
+on_path f n m p t a u w two lacks =
+    let b = w.met u two in
+    let tj : t ≤ b.0 = b.1 in
+    let j64 : b.0 < 64 = b.2 in
+    let e : t + (b.0 - t) ≡ b.0 = omega arith in
+    lacks (b.0 - t) (omega (arith, length_from p t w.plong)) (at_from p t (b.0 - t) (omega arith) ∙ ap (λ k. get_or p k 0) e ∙ b.3)
+
 -- what the walk shows at its end
 pub shown : (f : ℕ → ℕ → Bool) (n : ℕ) (m p before after : List ℕ) (t a u r : ℕ) → Walked f n m p t a → f u a ≡ true
-    → Taken p t u before after r → Shown f n before after r
+    → Taken (path_from p t) u before after r → Shown f n before after r
 shown f n m p before after t a u r w fa taken =
-    let c = circled f n m p after t a u r w fa taken.some taken.within taken.ends taken.front in
+    let some = taken.some in
+    let within : t + r ≤ 64 = omega (arith, length_from p t w.plong, taken.within, w.within) in
+    let ends : get_or p (t + (r - 1)) 0 ≡ u = sym (at_from p t (r - 1) (omega arith)) ∙ taken.ends in
+    let front : (i : ℕ) → i < r → get_or after i 0 ≡ get_or p (t + i) 0 = λ i lt. taken.front i lt ∙ at_from p t i (omega arith) in
+    let c = circled f n m p after t a u r w fa some within ends front in
     record { circle = c; no_order = λ order o. o.no_circle after r c; rest = taken.rest }

@@ -1,5 +1,5 @@
 -- How far a search has come, by marks: 1 at a node that is placed, 2 at one of the path back, 0 at any other.
-use Rattle.std.specs.Prelude.{◌≡◌, ℕ, ◌+◌, ◌-◌, ◌<◌, ◌≤◌, ◌≢◌, Bool, true, List, slice_index}
+use Rattle.std.specs.Prelude.{◌≡◌, ℕ, ◌-◌, ◌<◌, ◌≤◌, ◌≢◌, Bool, true, List, length, slice_index}
 
 -- each feeder of v is placed
 abbrev pub Closed : (ℕ → ℕ → Bool) → ℕ → List ℕ → ℕ → Type 0
@@ -28,10 +28,14 @@ pub record LeftOver (f : ℕ → ℕ → Bool) (n : ℕ) (marks : List ℕ) (v :
   pub stuck : Stuck f n marks
   pub bits : (u : ℕ) → slice_index marks u ≤ 1
 
--- the path from top to the place of last was copied to the front of a list, and no more
-pub record Taken (path : List ℕ) (top last : ℕ) (before after : List ℕ) (count : ℕ) : Type 0 where
+-- a node stands nowhere in a list
+abbrev pub Lacks : List ℕ → ℕ → Type 0
+Lacks list v = (k : ℕ) → k < length list → slice_index list k ≢ v
+
+-- a path up to where v stands was copied to the front of a list, and no more
+pub record Taken (path : List ℕ) (v : ℕ) (before after : List ℕ) (count : ℕ) : Type 0 where
   pub some : 0 < count
-  pub within : top + count ≤ 64
-  pub ends : slice_index path (top + (count - 1)) ≡ last
-  pub front : (i : ℕ) → i < count → slice_index after i ≡ slice_index path (top + i)
+  pub within : count ≤ length path
+  pub ends : slice_index path (count - 1) ≡ v
+  pub front : (i : ℕ) → i < count → slice_index after i ≡ slice_index path i
   pub rest : (i : ℕ) → count ≤ i → slice_index after i ≡ slice_index before i

@@ -1,26 +1,31 @@
 // Walks from a node that is left over back to a circle, by marks: 2 at a node of the path.
-ghost use Rattle.std.specs.Prelude.{◌≡◌, ℕ, ◌+◌, ◌-◌, ◌<◌, ◌≤◌, length, slice_index};
+ghost use Rattle.std.specs.Prelude.{◌≡◌, ℕ, ◌+◌, ◌-◌, ◌<◌, ◌≤◌, length, slice_index, MatchOption};
 ghost use Rattle.graph.specs.Copied.{fed};
 ghost use Rattle.graph.specs.Order.{Shown};
-ghost use Rattle.graph.specs.Placing.{LeftOver, Taken};
+ghost use Rattle.graph.specs.Placing.{Lacks, LeftOver, Taken};
 
 use crate::arcs::Arcs;
 use crate::placing::open_feeder;
 
-/// Copies the path from `top` to the place of `last` to the front of the circle list.
-fn copy_until(path: &[u8], top: usize, last: usize, circle: &mut [u8]) -> usize
-    requires { (length path.now ≡ 64) × ((length circle.old ≡ 64) × (((j : ℕ) × (top ≤ j) × (j < 64) × (slice_index path.now j ≡ last)))) }
-    ensures { Taken path.now top last circle.old circle.new result }
+/// Where a node first stands in a list.
+fn place_of(node: usize, list: &[u8]) -> Option<usize>
+    ensures { MatchOption result (Lacks list.now node) (λ k. (k < length list.now) × (slice_index list.now k ≡ node)) }
 {
-    let mut count = 0;
-    loop {
-        let node = path[top + count];
-        circle[count] = node;
-        count += 1;
-        if node as usize == last {
-            return count;
-        }
-    }
+    list.iter().position(|other| *other as usize == node)
+}
+
+/// Copies the path up to where this node stands to the front of the circle list.
+fn copy_until(node: usize, path: &[u8], circle: &mut [u8]) -> usize
+    requires lengths { (length path.now ≤ 64) × (length circle.old ≡ 64) }
+    requires met { Lacks path.now node → ⊥ }
+    ensures { Taken path.now node circle.old circle.new result }
+{
+    let Some(place) = place_of(node, path) else {
+        unreachable()
+    };
+    let count = place + 1;
+    circle[..count].copy_from_slice(&path[..count]);
+    count
 }
 
 /// Walks back over feeders that are not placed until a node comes again, and shows the circle.
@@ -40,7 +45,7 @@ pub(crate) fn walk(arcs: &Arcs, start: usize, marks: &mut [u8], circle: &mut [u8
             unreachable()
         };
         if marks[feeder] == 2 {
-            return copy_until(&path, top, feeder, circle);
+            return copy_until(feeder, &path[top..], circle);
         }
         node = feeder;
     }

@@ -1,5 +1,5 @@
 use Rattle.std.proofs.Common.{◌-◌, length, get_or, refl, ap, ◌∙◌, arith}
-use Rattle.graph.proofs.Walks.{some_room, step, never_closed, onward, shown, begin}
+use Rattle.graph.proofs.Walks.{some_room, step, never_closed, onward, short_from, on_path, shown, begin}
 use Rattle.graph.proofs.walking.walk.Goals as goal
 
 pub loop-feeder-init : goal.loop-feeder-init
@@ -18,7 +18,7 @@ pub copy_until-requires : goal.copy_until-requires
 copy_until-requires c =
     let h = some_room _ _ _ _ _ _ c.loop-feeder.invariant.0 in
     let w = step _ _ _ _ (c.loop-feeder.top - 1) _ _ (omega arith) c.loop-feeder.invariant.0 in
-    (w.plong, (ap length c.loop-feeder.invariant.1 ∙ c.requires.lengths.0, w.met c.in-Some.feeder c.if-marks-feeder-eq2.true))
+    record { lengths = (short_from _ _ _ _ _ _ w, ap length c.loop-feeder.invariant.1 ∙ c.requires.lengths.0); met = on_path _ _ _ _ _ _ _ w c.if-marks-feeder-eq2.true }
 
 pub returns-then-marks-feeder-eq2 : goal.returns-then-marks-feeder-eq2
 returns-then-marks-feeder-eq2 c =
