@@ -1,12 +1,14 @@
 -- What holds of copied arcs holds of the graph that they were copied from.
-use Rattle.std.proofs.Common.{◌≡◌, ℕ, ◌+◌, ◌-◌, ◌<◌, ◌≢◌, Bool, List, length, get_or, set, take, sym, subst, ◌∙◌, arith, below_more, get_or-set_other, get_or-set_same}
-use Rattle.std.proofs.lemmas.List.{get_or-take}
+use Rattle.std.proofs.Common.{◌≡◌, ℕ, ◌+◌, ◌-◌, ◌<◌, ◌≤◌, ◌≢◌, Bool, List, length, get_or, set, take, sym, ap, subst, ◌∙◌, arith, below_more, get_or-set_other, get_or-set_same}
+use Rattle.std.proofs.lemmas.List.{get_or-take, length-take-le}
 use Rattle.graph.specs.declared.arcs.Arcs.{Arcs}
 use Rattle.graph.specs.declared.found.Found.{Found}
 use Rattle.graph.specs.declared.found.Found.TheVariants.{Order, Circle}
 use Rattle.graph.specs.Order.{Stands, Ready, LowestFirst, IsCircle, IsOrder}
 use Rattle.graph.specs.Copied.{fed, Copied}
-use Rattle.graph.specs.Found.{Answered}
+use Rattle.graph.specs.declared.found.NodeOrder.{NodeOrder}
+use Rattle.graph.specs.Found.{listed, Ordered, Answered}
+use Rattle.graph.proofs.Orders.{no_circle}
 
 -- one element more is as it is to be
 pub one_more : {X : Type 0} (P : ℕ → X → Type 0) (xs : List X) (i : ℕ) (x d : X) → i < length xs
@@ -46,12 +48,13 @@ order_alike f h n o a p =
         λ w lw r. (p.lowest j lt).1 w lw (ready_alike h f n o j w b r),
       );
       all = p.all;
-      no_circle = λ l k c. p.no_circle l k (circle_alike h f n l k b c);
     }
 
 answered_alike : (f h : ℕ → ℕ → Bool) (n : ℕ) (before after : List ℕ) (found : Found) → Alike f h n
     → Answered f n before after found → Answered h n before after found
-answered_alike f h n before after (Order order) a answer = (answer.0, order_alike f h n _ a answer.1, answer.2)
+answered_alike f h n before after (Order order) a answer =
+    let o = answer.0 in
+    (record { whole = o.whole; is_order = order_alike f h n (listed order) a o.is_order; no_circle = λ l k c. o.no_circle l k (circle_alike h f n l k (back f h n a) c) }, answer.1)
 answered_alike f h n before after (Circle count) a answer = record {
   circle = circle_alike f h n after count a answer.circle;
   no_order = λ o p. answer.no_order o (order_alike h f n o (back f h n a) p);
@@ -77,7 +80,7 @@ ready_listed f n o p k v e r = (
   λ u lu fed_by. places_alike o p k e u (r.2 u lu fed_by),
 )
 
-pub order_listed : (f : ℕ → ℕ → Bool) (n : ℕ) (o : List ℕ) → IsOrder f n o → IsOrder f n (take n o)
+order_listed : (f : ℕ → ℕ → Bool) (n : ℕ) (o : List ℕ) → IsOrder f n o → IsOrder f n (take n o)
 order_listed f n o order =
     let e : (j : ℕ) → j < n → get_or (take n o) j 0 ≡ get_or o j 0 = λ j lt. get_or-take n o j 0 lt in
     let lowest : LowestFirst f n (take n o) n = λ j lt.
@@ -88,5 +91,15 @@ order_listed f n o order =
     in record {
       lowest = lowest;
       all = λ v lv. places_alike o (take n o) n e v (order.all v lv);
-      no_circle = order.no_circle;
+    }
+
+-- an order at the front of the places is listed
+pub ordered : (f : ℕ → ℕ → Bool) (n : ℕ) (order : NodeOrder) → order.count ≡ n → IsOrder f n order.nodes → Ordered f n order
+ordered f n order count is =
+    let long : n ≤ length order.nodes = subst (λ k. k ≤ length order.nodes) count order.room in
+    let e : take n order.nodes ≡ listed order = ap (λ k. take k order.nodes) (sym count) in
+    record {
+      whole = ap length (sym e) ∙ length-take-le n order.nodes long;
+      is_order = subst (IsOrder f n) e (order_listed f n order.nodes is);
+      no_circle = λ l k c. no_circle f n order.nodes l k is c;
     }

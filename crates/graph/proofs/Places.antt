@@ -1,10 +1,10 @@
 -- Placing nodes one by one: o has the first k places, and the marks m have 1 at each node placed.
-use Rattle.std.proofs.Common.{◌≡◌, ℕ, zero, suc, ◌+◌, ◌-◌, ◌<◌, ◌≤◌, Bool, true, cond, ◌≢◌, List, [], ◌∷◌, length, get_or, set, replicate, Some, None, Option, sym, refl, ap, ◌∙◌, subst, ⊎_elim, arith, length-set, get_or-set_other, get_or-set_same, MatchOption}
+use Rattle.std.proofs.Common.{◌≡◌, ℕ, zero, suc, ◌+◌, ◌<◌, ◌≤◌, Bool, cond, ◌≢◌, List, [], ◌∷◌, length, get_or, set, replicate, Some, None, Option, sym, refl, ap, ◌∙◌, subst, ⊎_elim, arith, length-set, get_or-set_other, get_or-set_same, MatchOption}
 use lib.ListN.{length-replicate}
 use Rattle.std.proofs.lemmas.List.Sums.{sum_by-set, get_or-le-sum_by, sum_by-cons}
 use Rattle.std.proofs.lemmas.List.{get_or-replicate, get_or_past}
 use Rattle.std.proofs.lemmas.Bool.{cases_eq, ne_eqb, cases_lt}
-use Rattle.graph.specs.Order.{Stands, Ready, LowestFirst, IsCircle, IsOrder}
+use Rattle.graph.specs.Order.{Stands, Ready, LowestFirst, IsOrder}
 use Rattle.graph.specs.Placing.{NoneReady, FirstReady, Stuck, LeftOver}
 use Rattle.graph.proofs.Walks.{is_zero, zeros}
 
@@ -37,16 +37,16 @@ ready_off f n o k x j v h r = (r.0, (λ s. r.1 (stands_on o k x j v h s)), λ u 
 
 pub some_place : (f : ℕ → ℕ → Bool) (n : ℕ) (m o : List ℕ) (k v : ℕ) → Placing f n m o k → FirstReady f n m v → k < 64
 some_place f n m o k v w fr =
-    let e : is_zero (get_or m v 0) ≡ 1 = ap is_zero fr.1 in
-    let b = fr.0 in
+    let e : is_zero (get_or m v 0) ≡ 1 = ap is_zero fr.open_still in
+    let b = fr.node in
     omega (arith, e, get_or-le-sum_by is_zero m v 0 (omega arith))
 
 -- the node that is placed next is ready, and the lowest-numbered
 here : (f : ℕ → ℕ → Bool) (n : ℕ) (m o : List ℕ) (k v : ℕ) → Placing f n m o k → FirstReady f n m v
     → Ready f n o k v × ((w : ℕ) → w < v → Ready f n o k w → ⊥)
 here f n m o k v p fr = (
-  (fr.0, (λ s. let a = p.marked v s in let b = fr.1 in omega arith), λ u hu fu. p.placed u (fr.2 u hu fu)),
-  λ w h r. fr.3 w h
+  (fr.node, (λ s. let a = p.marked v s in let b = fr.open_still in omega arith), λ u hu fu. p.placed u (fr.closed u hu fu)),
+  λ w h r. fr.lowest w h
       (let b = p.bits w in let no : get_or m w 0 ≡ 1 → ⊥ = λ q. r.1 (p.placed w q) in omega arith)
       (λ u hu fu. p.marked u (r.2 u hu fu)),
 )
@@ -72,10 +72,10 @@ pub place : (f : ℕ → ℕ → Bool) (n : ℕ) (m o : List ℕ) (k v : ℕ) �
     → Placing f n (set m v 1) (set o k v) (k + 1)
 place f n m o k v p fr =
     let k64 = some_place f n m o k v p fr in
-    let vn : v < n = fr.0 in
+    let vn : v < n = fr.node in
     let vm : v < length m = omega arith in
     let ko : k < length o = omega arith in
-    let one : is_zero (get_or m v 0) ≡ 1 = ap is_zero fr.1 in
+    let one : is_zero (get_or m v 0) ≡ 1 = ap is_zero fr.open_still in
     record {
       few = p.few;
       mlong = length-set m v 1 ∙ p.mlong;
@@ -134,20 +134,6 @@ zeros_rest (x ∷ xs) (suc n) h some none =
     let r = zeros_rest xs n (omega arith) (λ v lt. some (suc v) (omega arith)) (λ v le. none (suc v) (omega arith)) in
     omega arith
 
--- no node of a circle has a place
-unplaced : (f : ℕ → ℕ → Bool) (n : ℕ) (o : List ℕ) (k : ℕ) (c : List ℕ) (m : ℕ) → LowestFirst f n o k → IsCircle f n c m
-    → (b i : ℕ) → i < m → (j : ℕ) → j < b → j < k → get_or o j 0 ≡ get_or c i 0 → ⊥
-unplaced f n o k c m low ci zero i h j jb jk e = omega arith
-unplaced f n o k c m low ci (suc b) i h j jb jk e =
-    let go : (p : ℕ) → p < m → f (get_or c p 0) (get_or c i 0) ≡ true → ⊥ = λ p hp fd.
-    let s = (low j jk).0.2 (get_or c p 0) (ci.nodes p hp) (ap (λ x. f (get_or c p 0) x) e ∙ fd) in
-    unplaced f n o k c m low ci b p hp s.0 (let a = s.1 in omega arith) (let a = s.1 in omega arith) s.2
-    in ⊎_elim
-    (λ q. go (m - 1) (omega arith) (ap (λ x. f (get_or c (m - 1) 0) (get_or c x 0)) q ∙ ci.last))
-    (λ ne. let q : (i - 1) + 1 ≡ i = omega arith in
-    go (i - 1) (omega arith) (ap (λ x. f (get_or c (i - 1) 0) (get_or c x 0)) (sym q) ∙ ci.next (i - 1) (omega arith)))
-    (cases_eq i 0)
-
 -- every node is placed: the order
 pub finish : (f : ℕ → ℕ → Bool) (n : ℕ) (m o : List ℕ) (k : ℕ) → Placing f n m o k → ((v : ℕ) → v < n → get_or m v 0 ≡ 0 → ⊥) → IsOrder f n o
 finish f n m o k p full =
@@ -156,12 +142,7 @@ finish f n m o k p full =
     let low : LowestFirst f n o n = subst (λ i. LowestFirst f n o i) kn p.low in
     let all : (v : ℕ) → v < n → Stands o n v = λ v h.
     subst (λ i. Stands o i v) kn (p.placed v (let b = p.bits v in let no = full v h in omega arith)) in
-    record {
-      lowest = low;
-      all = all;
-      no_circle = λ c r ci. let s = all (get_or c 0 0) (ci.nodes 0 ci.some) in
-          unplaced f n o n c r low ci n 0 ci.some s.0 s.1 s.1 s.2;
-    }
+    record { lowest = low; all = all }
 
 -- no node is ready: each that is not placed has a feeder that is not
 pub stuck : (f : ℕ → ℕ → Bool) (n : ℕ) (m o : List ℕ) (k : ℕ) → Placing f n m o k → NoneReady f n m n → Stuck f n m

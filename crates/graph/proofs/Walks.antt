@@ -4,6 +4,7 @@ use Rattle.std.proofs.lemmas.List.Sums.{sum_by-set, get_or-le-sum_by, count_by-l
 use Rattle.std.proofs.lemmas.List.{get_or-take, get_or-drop, length-take-le, length-drop}
 use Rattle.std.proofs.lemmas.Bool.{cases_eq}
 use Rattle.graph.specs.Order.{IsCircle, Shown}
+use Rattle.graph.proofs.Orders.{no_circle}
 use Rattle.graph.specs.Placing.{Feeder, Closed, Stuck, Lacks, Taken}
 
 abbrev pub is_zero : ℕ → ℕ
@@ -216,4 +217,4 @@ shown f n m p before after t a u r w fa taken =
     let ends : get_or p (t + (r - 1)) 0 ≡ u = sym (at_from p t (r - 1) (omega arith)) ∙ taken.ends in
     let front : (i : ℕ) → i < r → get_or after i 0 ≡ get_or p (t + i) 0 = λ i lt. taken.front i lt ∙ at_from p t i (omega arith) in
     let c = circled f n m p after t a u r w fa some within ends front in
-    record { circle = c; no_order = λ order o. o.no_circle after r c; rest = taken.rest }
+    record { circle = c; no_order = λ order o. no_circle f n order after r o c; rest = taken.rest }

@@ -21,11 +21,10 @@ pub record IsCircle (f : ℕ → ℕ → Bool) (n : ℕ) (list : List ℕ) (coun
   pub next : (i : ℕ) → i + 1 < count → f (slice_index list i) (slice_index list (i + 1)) ≡ true
   pub last : f (slice_index list (count - 1)) (slice_index list 0) ≡ true
 
--- the first n places have each node once, at each place the lowest-numbered that is ready, and so there is no circle
+-- the first n places have each node once, at each place the lowest-numbered that is ready
 pub record IsOrder (f : ℕ → ℕ → Bool) (n : ℕ) (order : List ℕ) : Type 0 where
   pub lowest : LowestFirst f n order n
   pub all : (v : ℕ) → v < n → Stands order n v
-  pub no_circle : (list : List ℕ) (count : ℕ) → IsCircle f n list count → ⊥
 
 -- a circle stands at the front of the list, and so there is no order; the rest of the list is as it was
 pub record Shown (f : ℕ → ℕ → Bool) (n : ℕ) (before after : List ℕ) (count : ℕ) : Type 0 where

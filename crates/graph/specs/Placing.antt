@@ -14,8 +14,11 @@ abbrev pub NoneReady : (ℕ → ℕ → Bool) → ℕ → List ℕ → ℕ → T
 NoneReady f n marks k = (w : ℕ) → w < k → slice_index marks w ≡ 0 → Closed f n marks w → ⊥
 
 -- v is the lowest-numbered node that is ready
-abbrev pub FirstReady : (ℕ → ℕ → Bool) → ℕ → List ℕ → ℕ → Type 0
-FirstReady f n marks v = (v < n) × (slice_index marks v ≡ 0) × Closed f n marks v × NoneReady f n marks v
+pub record FirstReady (f : ℕ → ℕ → Bool) (n : ℕ) (marks : List ℕ) (v : ℕ) : Type 0 where
+  pub node : v < n
+  pub open_still : slice_index marks v ≡ 0
+  pub closed : Closed f n marks v
+  pub lowest : NoneReady f n marks v
 
 -- each node that is not placed has a feeder that is not
 abbrev pub Stuck : (ℕ → ℕ → Bool) → ℕ → List ℕ → Type 0
