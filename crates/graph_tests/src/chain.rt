@@ -5,7 +5,7 @@ use graph::graph::Graph;
 
 /// So many nodes, at most 64, each feeding the one after it, or the one before it.
 #[derive(Drop)]
-pub struct Chain {
+pub(crate) struct Chain {
     count: usize,
     backwards: bool,
     ghost few: { count ≤ 64 },
@@ -32,7 +32,7 @@ impl Graph for Chain {
 }
 
 impl Chain {
-    pub fn new(count: usize, backwards: bool) -> Chain {
+    pub(crate) fn new(count: usize, backwards: bool) -> Chain {
         Chain {
             count: count.min(64),
             backwards,

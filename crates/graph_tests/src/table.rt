@@ -5,7 +5,7 @@ use graph::graph::Graph;
 
 /// A graph of at most 8 nodes by a cell for each pair of nodes: whether the first feeds the second, at 8 times the first and the second.
 #[derive(Drop)]
-pub struct Table {
+pub(crate) struct Table {
     cells: [bool; 64],
     count: usize,
     ghost few: { count ≤ 8 },
@@ -29,7 +29,7 @@ impl Graph for Table {
 
 impl Table {
     /// A graph of so many nodes, at most 8, with these arcs.
-    pub fn new(arcs: &[(usize, usize)], count: usize) -> Table {
+    pub(crate) fn new(arcs: &[(usize, usize)], count: usize) -> Table {
         let mut cells = [false; 64];
         for (feeder, node) in arcs {
             if *feeder < 8 && *node < 8 {
