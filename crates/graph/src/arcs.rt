@@ -1,4 +1,4 @@
-ghost use Rattle.std.specs.Prelude.{◌≡◌, ℕ, ◌≤◌, map, length, replicate};
+ghost use Rattle.std.specs.Prelude.{ℕ, ◌≤◌};
 
 /// The arcs of a graph, copied once: a row for each feeder, with a place for each node that it may feed.
 #[derive(Drop)]

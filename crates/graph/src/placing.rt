@@ -1,17 +1,18 @@
-// Places the nodes one by one, by marks: 0 at a node that is open, 1 at one that is placed.
+// Places the nodes one by one.
 ghost use Rattle.std.specs.Prelude.{◌≡◌, ℕ, ◌<◌, ◌≤◌, ◌≢◌, length, replicate, slice_index, MatchOption};
 ghost use Rattle.graph.specs.Copied.{fed};
 ghost use Rattle.graph.specs.Order.{IsOrder};
 ghost use Rattle.graph.specs.Placing.{Feeder, Closed, FirstReady, NoneReady, LeftOver};
 
 use crate::arcs::Arcs;
+use crate::marks::{OPEN, PLACED};
 
 /// The lowest-numbered node that feeds this one and is not placed.
 pub(crate) fn open_feeder(arcs: &Arcs, marks: &[u8], node: usize) -> Option<usize>
     requires { (node < arcs.now.count) × (length marks.now ≡ 64) }
     ensures { MatchOption result (Closed (fed arcs.now) arcs.now.count marks.now node) (λ u. Feeder (fed arcs.now) arcs.now.count marks.now node u) }
 {
-    (0..arcs.count).find(|&feeder| marks[feeder] != 1 && arcs.feeds(feeder, node))
+    (0..arcs.count).find(|&feeder| marks[feeder] != PLACED && arcs.feeds(feeder, node))
 }
 
 /// The lowest-numbered node that is open and whose feeders are all placed.
@@ -19,7 +20,7 @@ fn first_ready(arcs: &Arcs, marks: &[u8]) -> Option<usize>
     requires { length marks.now ≡ 64 }
     ensures { MatchOption result (NoneReady (fed arcs.now) arcs.now.count marks.now arcs.now.count) (λ v. FirstReady (fed arcs.now) arcs.now.count marks.now v) }
 {
-    (0..arcs.count).find(|&node| marks[node] == 0 && open_feeder(arcs, marks, node).is_none())
+    (0..arcs.count).find(|&node| marks[node] == OPEN && open_feeder(arcs, marks, node).is_none())
 }
 
 /// The lowest-numbered of the first `count` nodes that is open.
@@ -27,7 +28,7 @@ fn first_open(marks: &[u8], count: usize) -> Option<usize>
     requires { count ≤ length marks.now }
     ensures { MatchOption result ((v : ℕ) → v < count → slice_index marks.now v ≢ 0) (λ v. (v < count) × (slice_index marks.now v ≡ 0)) }
 {
-    marks.iter().take(count).position(|mark| *mark == 0)
+    marks.iter().take(count).position(|mark| *mark == OPEN)
 }
 
 /// Places node after node, each time the lowest-numbered that is ready. Some node is left over where there is a circle.
@@ -37,7 +38,7 @@ pub(crate) fn place_all(arcs: &Arcs, marks: &mut [u8], order: &mut [u8]) -> Opti
 {
     let mut placed = 0;
     while let Some(node) = first_ready(arcs, marks) {
-        marks[node] = 1;
+        marks[node] = PLACED;
         order[placed] = node as u8;
         placed += 1;
     }

@@ -7,7 +7,7 @@ use crate::arcs::Arcs;
 use crate::fault::ListFault;
 use crate::found::{Found, NodeOrder};
 use crate::graph::Graph;
-use crate::marks::Marks;
+use crate::marks::{Marks, OPEN};
 use crate::placing::place_all;
 use crate::walking::walk;
 
@@ -38,7 +38,7 @@ pub fn search<G: Graph>(graph: &G, circle: &mut [u8], marks: &mut [u8]) -> Resul
         return Err(ListFault::MarksLength(marks.len()));
     }
     let arcs = Arcs::copy(graph);
-    marks.fill(0);
+    marks.fill(OPEN);
     let held = Marks { bytes: marks };
     Ok(find(&arcs, circle, held.bytes))
 }

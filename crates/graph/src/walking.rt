@@ -1,10 +1,11 @@
-// Walks from a node that is left over back to a circle, by marks: 2 at a node of the path.
-ghost use Rattle.std.specs.Prelude.{◌≡◌, ℕ, ◌+◌, ◌-◌, ◌<◌, ◌≤◌, length, slice_index, MatchOption};
+// Walks from a node that is left over back to a circle.
+ghost use Rattle.std.specs.Prelude.{◌≡◌, ℕ, ◌<◌, ◌≤◌, length, slice_index, MatchOption};
 ghost use Rattle.graph.specs.Copied.{fed};
 ghost use Rattle.graph.specs.Order.{Shown};
 ghost use Rattle.graph.specs.Placing.{Lacks, LeftOver, Taken};
 
 use crate::arcs::Arcs;
+use crate::marks::ON_PATH;
 use crate::placing::open_feeder;
 
 /// Where a node first stands in a list.
@@ -38,13 +39,13 @@ pub(crate) fn walk(arcs: &Arcs, start: usize, marks: &mut [u8], circle: &mut [u8
     let mut top = 64;
     let mut node = start;
     loop {
-        marks[node] = 2;
+        marks[node] = ON_PATH;
         top -= 1;
         path[top] = node as u8;
         let Some(feeder) = open_feeder(arcs, marks, node) else {
             unreachable()
         };
-        if marks[feeder] == 2 {
+        if marks[feeder] == ON_PATH {
             return copy_until(feeder, &path[top..], circle);
         }
         node = feeder;

@@ -18,10 +18,10 @@ pub copy_until-requires : goal.copy_until-requires
 copy_until-requires c =
     let h = some_room _ _ _ _ _ _ c.loop-feeder.invariant.0 in
     let w = step _ _ _ _ (c.loop-feeder.top - 1) _ _ (omega arith) c.loop-feeder.invariant.0 in
-    record { lengths = (short_from _ _ _ _ _ _ w, ap length c.loop-feeder.invariant.1 ∙ c.requires.lengths.0); met = on_path _ _ _ _ _ _ _ w c.if-marks-feeder-eq2.true }
+    record { lengths = (short_from _ _ _ _ _ _ w, ap length c.loop-feeder.invariant.1 ∙ c.requires.lengths.0); met = on_path _ _ _ _ _ _ _ w c.if-marks-feeder-eq-ON_PATH.true }
 
-pub returns-then-marks-feeder-eq2 : goal.returns-then-marks-feeder-eq2
-returns-then-marks-feeder-eq2 c =
+pub returns-then-marks-feeder-eq-ON_PATH : goal.returns-then-marks-feeder-eq-ON_PATH
+returns-then-marks-feeder-eq-ON_PATH c =
     let h = some_room _ _ _ _ _ _ c.loop-feeder.invariant.0 in
     let w = step _ _ _ _ (c.loop-feeder.top - 1) _ _ (omega arith) c.loop-feeder.invariant.0 in
     let s = shown _ _ _ _ _ _ _ _ c.in-Some.feeder _ w c.in-Some.ensures.1 c.copy_until.ensures in
@@ -34,4 +34,4 @@ pub loop-feeder-preserved : goal.loop-feeder-preserved
 loop-feeder-preserved c =
     let h = some_room _ _ _ _ _ _ c.loop-feeder.invariant.0 in
     let w = step _ _ _ _ (c.loop-feeder.top - 1) _ _ (omega arith) c.loop-feeder.invariant.0 in
-    (onward _ _ _ _ _ _ _ w c.in-Some.ensures c.if-marks-feeder-eq2.false, c.loop-feeder.invariant.1)
+    (onward _ _ _ _ _ _ _ w c.in-Some.ensures c.if-marks-feeder-eq-ON_PATH.false, c.loop-feeder.invariant.1)
