@@ -3,10 +3,10 @@ ghost use Rattle.std.specs.Prelude.{◌≡◌, length, replicate};
 ghost use Rattle.graph.specs.Copied.{fed};
 ghost use Rattle.graph.specs.Found.{Answered, Searched};
 
+use crate::Graph;
 use crate::arcs::Arcs;
 use crate::fault::ListFault;
 use crate::found::{Found, NodeOrder};
-use crate::graph::Graph;
 use crate::marks::{Marks, OPEN};
 use crate::placing::place_all;
 use crate::walking::walk;

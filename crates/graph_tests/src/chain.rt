@@ -1,7 +1,7 @@
 ghost use Rattle.std.specs.Prelude.{◌≡◌, ℕ, ◌+◌, ◌≤◌, Bool, nat_eq, if◌then◌else◌};
 ghost use Rattle.std.proofs.Common.{rules};
 
-use graph::graph::Graph;
+use graph::Graph;
 
 /// So many nodes, at most 64, each feeding the one after it, or the one before it.
 #[derive(Drop)]

@@ -12,7 +12,7 @@ mod tests {
     use crate::table::Table;
     use graph::fault::ListFault;
     use graph::found::Found;
-    use graph::graph::Graph;
+    use graph::Graph;
     use graph::search::search;
 
     // What a search leaves in lists that held 7 and 9 before.

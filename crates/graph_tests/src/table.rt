@@ -1,7 +1,7 @@
 ghost use Rattle.std.specs.Prelude.{◌≡◌, ℕ, ◌+◌, ◌*◌, ◌≤◌, Bool, ◌&&◌, nat_lt, slice_index_or, false};
 ghost use Rattle.std.proofs.Common.{rules};
 
-use graph::graph::Graph;
+use graph::Graph;
 
 /// A graph of at most 8 nodes by a cell for each pair of nodes: whether the first feeds the second, at 8 times the first and the second.
 #[derive(Drop)]

@@ -3,7 +3,7 @@ ghost use Rattle.std.specs.Prelude.{◌≡◌, ℕ, ◌<◌, false, slice_index_
 ghost use Rattle.graph.specs.Copied.{fed, Copied};
 
 use super::Arcs;
-use crate::graph::Graph;
+use crate::Graph;
 
 /// Which nodes a node feeds.
 fn row<G: Graph>(graph: &G, feeder: usize) -> [bool; 64]
