@@ -10,9 +10,9 @@ mod table;
 mod tests {
     use crate::chain::Chain;
     use crate::table::Table;
+    use graph::Graph;
     use graph::fault::ListFault;
     use graph::found::Found;
-    use graph::Graph;
     use graph::search::search;
 
     // What a search leaves in lists that held 7 and 9 before.
