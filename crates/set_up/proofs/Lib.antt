@@ -1,0 +1,5 @@
+pub mod Using
+pub mod Within
+pub mod Few
+pub mod Totals
+pub mod Reading

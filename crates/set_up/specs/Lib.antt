@@ -1,0 +1,5 @@
+pub mod Outputs
+pub mod Passing
+pub mod Causes
+pub mod Codes
+pub mod Listing
