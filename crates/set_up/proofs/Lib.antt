@@ -3,3 +3,4 @@ pub mod Within
 pub mod Few
 pub mod Totals
 pub mod Reading
+pub mod Listed

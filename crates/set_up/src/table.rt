@@ -18,3 +18,4 @@ pub(crate) struct Outputs {
     ghost few: { count ≤ 64 },
 }
 
+pub mod listing;
