@@ -4,3 +4,5 @@ pub mod Few
 pub mod Totals
 pub mod Reading
 pub mod Listed
+pub mod Passes
+pub mod Searched

@@ -55,6 +55,11 @@ module _ {S : Type 0} (x : RigUnit S) where
       let a = or_from _ _ (empty_at 0 (omega arith) f) b in
       or_from _ _ (not_some x.held f.in_place) a
 
+pub fresh_unless : {S : Type 0} (x : RigUnit S) → ((IsFresh x → ⊥) → ⊥) → IsFresh x
+fresh_unless x n =
+    ⊎_elim (λ (t : is_used (told x) ≡ true). absurd (n (λ f. let z = unused x f in let q : true ≡ false = sym t ∙ z in cc)))
+    (λ (f : is_used (told x) ≡ false). fresh x f) (cases_Bool (is_used (told x)))
+
 module _ {S : Type 0} (us : List (RigUnit S)) (u : ℕ) where
   same_unit : (x : RigUnit S) → slice_get us u ≡ Some x → (i : IsInUse us u) → x ≡ i.unit
   same_unit x e i = let s : ◌≡◌ {A = Option (RigUnit S)} (Some x) (Some i.unit) = sym e ∙ i.there in cc

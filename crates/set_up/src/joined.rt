@@ -1,5 +1,12 @@
 ghost use Rattle.std.specs.Prelude.{◌≡◌};
+ghost use Rattle.set_up.specs.Causes.{Checked};
 
+use crate::causes::clear;
+use crate::fault::CheckFault;
+use crate::feeding::OutputGraph;
+use crate::table::Outputs;
+use graph::found::{Found, NodeOrder};
+use graph::search::search;
 use rig::Rig;
 use wiring::table::Wiring;
 
@@ -23,5 +30,25 @@ impl<R: Rig> SetUp<R> {
     {
         let SetUp { rig, wiring } = self;
         (rig, wiring)
+    }
+
+    /// The order in which the outputs are settled, or the first cause why there is none. Before the search no list is touched; after it the marks are clear, and the circle list is as it was unless a circle is shown at its front.
+    pub fn check(&self, circle: &mut [u8], marks: &mut [u8]) -> Result<NodeOrder, CheckFault>
+        ensures { Checked (R.model self.now.rig) self.now.wiring circle.old circle.new marks.old marks.new result }
+    {
+        clear(&self.rig, &self.wiring, circle, marks)?;
+        let outputs = Outputs::list(&self.rig);
+        let graph = OutputGraph {
+            outputs,
+            wiring: self.wiring,
+        };
+        match search(&graph, circle, marks) {
+            Ok(Found::Order(order)) => Ok(order),
+            Ok(Found::Circle(count)) => {
+                let first = outputs.list[circle[0] as usize];
+                Err(CheckFault::Circle(first.port, count))
+            }
+            Err(_) => Err(CheckFault::ListLength),
+        }
     }
 }
