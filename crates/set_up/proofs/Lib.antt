@@ -6,3 +6,4 @@ pub mod Reading
 pub mod Listed
 pub mod Passes
 pub mod Searched
+pub mod Exact

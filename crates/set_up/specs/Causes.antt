@@ -1,5 +1,5 @@
 -- Why a set-up is refused: the first cause in their order, at its lowest unit and port.
-use Rattle.std.specs.Prelude.{◌≡◌, ℕ, ◌<◌, ◌≤◌, Bool, false, ◌||◌, List, length, replicate, slice_index, slice_index_or, Some, None, Option, Ok, Err, Result}
+use Rattle.std.specs.Prelude.{◌≡◌, ℕ, ◌<◌, ◌≤◌, Bool, false, ◌||◌, List, length, replicate, slice_index, slice_index_or, Some, None, Option, Ok, Err, Result, is_ok, Decides}
 use Rattle.std.specs.List.{slice_get}
 use Rattle.std.specs.Option.{IsSome}
 use Rattle.rig.specs.declared.shape.Status.{Status}
@@ -7,7 +7,7 @@ use Rattle.rig.specs.Units.{RigUnit}
 use Rattle.wiring.specs.declared.port.Port.{Port}
 use Rattle.wiring.specs.declared.table.Wiring.{Wiring}
 use Rattle.wiring.specs.Wires.{source_of}
-use Rattle.graph.specs.Order.{IsOrder, Shown}
+use Rattle.graph.specs.Order.{IsCircle, IsOrder, Shown}
 use Rattle.graph.specs.Found.{listed}
 use Rattle.graph.specs.declared.found.NodeOrder.{NodeOrder}
 use Rattle.set_up.specs.declared.fault.CheckFault.{CheckFault}
@@ -125,3 +125,13 @@ Denied us w circle circle' marks marks' (Circle first count) = Circled us w circ
 abbrev pub Checked : {S : Type 0} → List (RigUnit S) → Wiring → List ℕ → List ℕ → List ℕ → List ℕ → Result NodeOrder CheckFault → Type 0
 Checked us w circle circle' marks marks' (Ok order) = Passed us w circle circle' marks marks' order
 Checked us w circle circle' marks marks' (Err fault) = Denied us w circle circle' marks marks' fault
+
+-- there is a circle of outputs
+abbrev pub HasCircle : {S : Type 0} → List (RigUnit S) → Wiring → Type 0
+HasCircle us w = (list : List ℕ) × (count : ℕ) × IsCircle (feeds us w) (length (outputs_of us)) list count
+
+-- a set-up passes exactly when it is to pass, and each cause is answered exactly when it is the first
+pub record Exactly {S : Type 0} (us : List (RigUnit S)) (w : Wiring) (circle marks : List ℕ) (answer : Result NodeOrder CheckFault) : Type 0 where
+  pub passes : Decides (is_ok answer) (BothLong circle marks × Passes us w)
+  pub refuses : (fault : CheckFault) → IsFirst us w circle marks fault → answer ≡ Err fault
+  pub circles : Joined us w circle marks → HasCircle us w → (first : Port) × (count : ℕ) × (answer ≡ Err (Circle first count))

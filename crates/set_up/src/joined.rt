@@ -1,12 +1,9 @@
 ghost use Rattle.std.specs.Prelude.{◌≡◌};
-ghost use Rattle.set_up.specs.Causes.{Checked};
+ghost use Rattle.set_up.specs.Causes.{Checked, Exactly};
 
-use crate::causes::clear;
+use crate::checking::checked;
 use crate::fault::CheckFault;
-use crate::feeding::OutputGraph;
-use crate::table::Outputs;
-use graph::found::{Found, NodeOrder};
-use graph::search::search;
+use graph::found::NodeOrder;
 use rig::Rig;
 use wiring::table::Wiring;
 
@@ -33,22 +30,11 @@ impl<R: Rig> SetUp<R> {
     }
 
     /// The order in which the outputs are settled, or the first cause why there is none. Before the search no list is touched; after it the marks are clear, and the circle list is as it was unless a circle is shown at its front.
+    #[tactic(auto, using(crate::proofs::Exact::exactly))]
     pub fn check(&self, circle: &mut [u8], marks: &mut [u8]) -> Result<NodeOrder, CheckFault>
-        ensures { Checked (R.model self.now.rig) self.now.wiring circle.old circle.new marks.old marks.new result }
+        ensures answer { Checked (R.model self.now.rig) self.now.wiring circle.old circle.new marks.old marks.new result }
+        ensures exact { Exactly (R.model self.now.rig) self.now.wiring circle.old marks.old result }
     {
-        clear(&self.rig, &self.wiring, circle, marks)?;
-        let outputs = Outputs::list(&self.rig);
-        let graph = OutputGraph {
-            outputs,
-            wiring: self.wiring,
-        };
-        match search(&graph, circle, marks) {
-            Ok(Found::Order(order)) => Ok(order),
-            Ok(Found::Circle(count)) => {
-                let first = outputs.list[circle[0] as usize];
-                Err(CheckFault::Circle(first.port, count))
-            }
-            Err(_) => Err(CheckFault::ListLength),
-        }
+        checked(&self.rig, &self.wiring, circle, marks)
     }
 }

@@ -2,6 +2,7 @@
 #![tactic(auto)]
 
 mod causes;
+mod checking;
 pub mod fault;
 mod feeding;
 pub mod joined;
