@@ -7,3 +7,4 @@ pub mod Listed
 pub mod Passes
 pub mod Searched
 pub mod Exact
+pub mod Feeds

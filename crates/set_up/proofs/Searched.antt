@@ -1,6 +1,7 @@
 -- From the search of the table to the answer of the check.
 use Rattle.std.proofs.Common.{◌≡◌, ℕ, List, length, Ok, Err, Result, sym, ap, subst, ◌∙◌, get_or}
 use Rattle.rig.specs.Units.{RigUnit}
+use Rattle.wiring.specs.declared.port.Port.{Port}
 use Rattle.wiring.specs.declared.table.Wiring.{Wiring}
 use Rattle.graph.specs.Found.{Searched}
 use Rattle.graph.specs.declared.fault.ListFault.{ListFault}
@@ -35,13 +36,13 @@ module _ {S : Type 0} (us : List (RigUnit S)) (w : Wiring) (t : Outputs) (circle
       }
 
   -- the first output of the circle is one of the rig's
-  pub circled : (count : ℕ) → Joined us w circle marks → Lists us (outputs_of us) t → Searched (feeds_in w t) t.count circle circle' marks marks' (Ok (Circle count))
-      → Circled us w circle circle' marks marks' (entry t (get_or circle' 0 0)).port count
-  circled count j l s =
+  pub circled : (first : Port) (count : ℕ) → Joined us w circle marks → Lists us (outputs_of us) t → Searched (feeds_in w t) t.count circle circle' marks marks' (Ok (Circle count))
+      → first ≡ (entry t (get_or circle' 0 0)).port → Circled us w circle circle' marks marks' first count
+  circled first count j l s e =
       let q = of_units (Ok (Circle count)) l s in
       let shown = q.2 in
       let node = shown.circle.nodes 0 shown.circle.some in
-      record { joined = j; shown = q.2; named = l.each_port (get_or circle' 0 0) node; marks_clear = q.3 }
+      record { joined = j; shown = q.2; named = e ∙ l.each_port (get_or circle' 0 0) node; marks_clear = q.3 }
 
   -- a search of two lists that are 64 long is not refused
   pub not_refused : (fault : ListFault) → Joined us w circle marks → Searched (feeds_in w t) t.count circle circle' marks marks' (Err fault) → ⊥

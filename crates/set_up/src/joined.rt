@@ -25,7 +25,7 @@ impl<R: Rig> SetUp<R> {
     pub fn into_parts(self) -> (R, Wiring)
         ensures { result ≡ (self.rig, self.wiring) }
     {
-        let SetUp { rig, wiring } = self;
+        let Self { rig, wiring } = self;
         (rig, wiring)
     }
 

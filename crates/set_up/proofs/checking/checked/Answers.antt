@@ -8,8 +8,8 @@ returns-in-Ok-Order g c =
 
 pub returns-in-Ok-Circle : goal.returns-in-Ok-Circle
 returns-in-Ok-Circle g c =
-    circled (g.R.Rig.model c.args.rig.now) c.args.wiring.now c.list-outputs.result c.args.circle.now c.search.new.circle c.args.marks.now c.search.new.marks c.in-Ok-Circle.count
-    c.in_ok-clear.ensures c.list-outputs.ensures (rw c.in-Ok-Circle.field-0-is at c.in-Ok-Circle.ensures)
+    circled (g.R.Rig.model c.args.rig.now) c.args.wiring.now c.list-outputs.result c.args.circle.now c.search.new.circle c.args.marks.now c.search.new.marks c.first_of.result c.in-Ok-Circle.count
+    c.in_ok-clear.ensures c.list-outputs.ensures (rw c.in-Ok-Circle.field-0-is at c.in-Ok-Circle.ensures) c.first_of.ensures
 
 pub returns-in-Err : goal.returns-in-Err
 returns-in-Err g c =
