@@ -7,8 +7,9 @@ use Rattle.wiring.specs.declared.table.Wiring.{Wiring}
 use Rattle.graph.specs.declared.found.NodeOrder.{NodeOrder}
 use Rattle.set_up.specs.declared.fault.CheckFault.{CheckFault}
 use Rattle.set_up.specs.declared.fault.CheckFault.TheVariants.{ListLength, Size, InUse, Lacking, Unwired, Circle}
+use Rattle.set_up.specs.Outputs.{Before}
 use Rattle.set_up.specs.Passing.{Passes}
-use Rattle.set_up.specs.Causes.{LowestUnit, Before, LowestPort, BothLong, Joined, IsFirst, Checked, HasCircle, Exactly}
+use Rattle.set_up.specs.Causes.{LowestUnit, LowestPort, BothLong, Joined, IsFirst, Checked, HasCircle, Exactly}
 
 -- there is one lowest unit, and one lowest port
 same_unit : (P : ℕ → Type 0) (u v : ℕ) → LowestUnit P u → LowestUnit P v → u ≡ v

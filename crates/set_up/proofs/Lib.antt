@@ -8,3 +8,4 @@ pub mod Passes
 pub mod Searched
 pub mod Exact
 pub mod Feeds
+pub mod Numbered

@@ -12,18 +12,13 @@ use Rattle.graph.specs.Found.{listed}
 use Rattle.graph.specs.declared.found.NodeOrder.{NodeOrder}
 use Rattle.set_up.specs.declared.fault.CheckFault.{CheckFault}
 use Rattle.set_up.specs.declared.fault.CheckFault.TheVariants.{ListLength, Size, InUse, Lacking, Unwired, Circle}
-use Rattle.set_up.specs.Outputs.{outputs_of, output_at, HasInput, Supplies, feeds}
+use Rattle.set_up.specs.Outputs.{Before, outputs_of, output_at, HasInput, Supplies, feeds}
 use Rattle.set_up.specs.Passing.{Fits, IsFresh, Touches, Passes}
 
 -- the lowest unit of which P holds
 pub record LowestUnit (P : ℕ → Type 0) (u : ℕ) : Type 0 where
   pub holds : P u
   pub lowest : (v : ℕ) → v < u → P v → ⊥
-
--- q comes before p, by unit, then port
-pub record Before (q p : Port) : Type 0 where
-  pub unit : q.unit ≤ p.unit
-  pub port : q.unit ≡ p.unit → q.port < p.port
 
 -- the lowest port of which P holds
 pub record LowestPort (P : Port → Type 0) (p : Port) : Type 0 where

@@ -1,5 +1,5 @@
 -- The inputs and outputs of a rig's units, numbered from 0 by unit, then port, and which output feeds which.
-use Rattle.std.specs.Prelude.{◌≡◌, ℕ, zero, suc, ◌+◌, ◌<◌, Bool, true, false, cond, ◌&&◌, ◌||◌, List, [], ◌∷◌, ◌++◌, length, Some, None, Option, nat_eq, nat_lt, slice_index, slice_index_or}
+use Rattle.std.specs.Prelude.{◌≡◌, ℕ, zero, suc, ◌+◌, ◌<◌, ◌≤◌, Bool, true, false, cond, ◌&&◌, ◌||◌, List, [], ◌∷◌, ◌++◌, length, Some, None, Option, nat_eq, nat_lt, slice_index, slice_index_or}
 use Rattle.std.specs.List.{slice_get}
 use Rattle.rig.specs.declared.shape.Ports.{Ports}
 use Rattle.rig.specs.Units.{RigUnit}
@@ -55,6 +55,20 @@ HasInput us input = input.port < (ports_at us input.unit).inputs
 abbrev pub HasOutput : {S : Type 0} → List (RigUnit S) → Port → Type 0
 HasOutput us output = output.port < (ports_at us output.unit).outputs
 
+abbrev pub no_port : Port
+no_port = record { unit = 0; port = 0 }
+
+-- q comes before p, by unit, then port
+pub record Before (q p : Port) : Type 0 where
+  pub unit : q.unit ≤ p.unit
+  pub port : q.unit ≡ p.unit → q.port < p.port
+
+-- a list has the ports of which P holds and no other, each once, by unit, then port
+pub record Numbers (P : Port → Type 0) (ports : List Port) : Type 0 where
+  pub each : (n : ℕ) → n < length ports → P (slice_index_or ports n no_port)
+  pub all : (p : Port) → P p → (n : ℕ) × (n < length ports) × (slice_index_or ports n no_port ≡ p)
+  pub in_order : (m n : ℕ) → m < n → n < length ports → Before (slice_index_or ports m no_port) (slice_index_or ports n no_port)
+
 -- output a supplies an input
 abbrev pub Supplies : Wiring → Port → Port → Type 0
 Supplies w a to = source_of w to.unit to.port ≡ Some a
@@ -84,9 +98,6 @@ reads_below w a u mask (suc n) = reads_at w a u mask n || reads_below w a u mask
 -- whether the output at unit u with this mask reads a
 abbrev pub reads : Wiring → Port → ℕ → ℕ → Bool
 reads w a u mask = reads_below w a u mask 8
-
-abbrev pub no_port : Port
-no_port = record { unit = 0; port = 0 }
 
 -- the output with this number
 abbrev pub output_at : {S : Type 0} → List (RigUnit S) → ℕ → Port
