@@ -1,5 +1,5 @@
 -- The causes exclude each other, and any of them excludes that the set-up passes.
-use Rattle.std.proofs.Common.{◌≡◌, ℕ, ◌<◌, ◌≤◌, Bool, true, List, length, is_some, is_ok, Some, None, Ok, Err, Option, Result, Decides, refl, sym, ap, subst, ◌∙◌, ⊎_elim, arith}
+use Rattle.std.proofs.Common.{◌≡◌, ℕ, ◌<◌, ◌≤◌, true, List, is_some, Some, None, Ok, Err, Option, Result, refl, ap, ⊎_elim, arith}
 use Rattle.std.proofs.lemmas.Bool.{cases_lt}
 use Rattle.rig.specs.Units.{RigUnit}
 use Rattle.wiring.specs.declared.port.Port.{Port}
@@ -9,7 +9,7 @@ use Rattle.set_up.specs.declared.fault.CheckFault.{CheckFault}
 use Rattle.set_up.specs.declared.fault.CheckFault.TheVariants.{ListLength, Size, InUse, Lacking, Unwired, Circle}
 use Rattle.set_up.specs.Outputs.{Before}
 use Rattle.set_up.specs.Passing.{Passes}
-use Rattle.set_up.specs.Causes.{LowestUnit, LowestPort, BothLong, Joined, IsFirst, Checked, HasCircle, Exactly}
+use Rattle.set_up.specs.Causes.{LowestUnit, LowestPort, BothLong, Joined, IsFirst, Checked, Exactly}
 
 -- there is one lowest unit, and one lowest port
 same_unit : (P : ℕ → Type 0) (u v : ℕ) → LowestUnit P u → LowestUnit P v → u ≡ v

@@ -1,11 +1,11 @@
 -- The test of feeding, by numbers, tells which output feeds which.
-use Rattle.std.proofs.Common.{◌≡◌, ℕ, ◌<◌, Bool, true, false, cond, ◌&&◌, nat_lt, length, List, Decides, refl, sym, ap, subst, ◌∙◌, arith}
+use Rattle.std.proofs.Common.{◌≡◌, ℕ, ◌<◌, true, false, cond, ◌&&◌, nat_lt, length, List, Decides, sym, subst}
 use Rattle.std.proofs.lemmas.Bool.{and_from, lt-ltb}
 use Rattle.std.proofs.lemmas.Bool.Decides.{Decides-like}
 use Rattle.rig.specs.Units.{RigUnit}
 use Rattle.wiring.specs.declared.port.Port.{Port}
 use Rattle.wiring.specs.declared.table.Wiring.{Wiring}
-use Rattle.set_up.specs.Outputs.{ReadsAt, Feeds, outputs_of, output_at, mask_at, reads, feeds}
+use Rattle.set_up.specs.Outputs.{Feeds, outputs_of, output_at, mask_at, reads, feeds}
 use Rattle.set_up.proofs.Reading.{below_decides}
 use Rattle.set_up.proofs.Within.{wired_within}
 

@@ -9,3 +9,4 @@ pub mod Searched
 pub mod Exact
 pub mod Feeds
 pub mod Numbered
+pub mod Means

@@ -1,5 +1,5 @@
 -- The table of the outputs, as it grows.
-use Rattle.std.proofs.Common.{◌≡◌, ℕ, zero, suc, ◌+◌, ◌-◌, ◌<◌, ◌≤◌, ◌≢◌, List, [], ◌∷◌, ◌++◌, length, take, get_or, set, refl, sym, ap, subst, ◌∙◌, ⊎_elim, append_assoc, add-one, arith}
+use Rattle.std.proofs.Common.{◌≡◌, ℕ, zero, suc, ◌+◌, ◌-◌, ◌<◌, ◌≤◌, ◌≢◌, List, [], ◌∷◌, ◌++◌, length, take, get_or, refl, sym, ap, subst, ◌∙◌, ⊎_elim, append_assoc, add-one, arith}
 use Rattle.std.specs.List.{slice_get}
 use Rattle.std.proofs.lemmas.Bool.{cases_eq}
 use Rattle.std.proofs.lemmas.List.{length-append, get_or_append_left, get_or-append_right, get_or-set_same, get_or-set_other}
@@ -9,7 +9,7 @@ use Rattle.set_up.specs.declared.table.Output.{Output}
 use Rattle.set_up.specs.declared.table.Outputs.{Outputs}
 use Rattle.set_up.specs.Outputs.{ports_from, ports_by, ports_at, outputs_of, mask_at, no_port, output_count}
 use Rattle.set_up.specs.Listing.{entry, no_output, Lists, OneMore}
-use Rattle.set_up.proofs.Totals.{more, more_count, count_in, outputs_in}
+use Rattle.set_up.proofs.Totals.{more, more_count, outputs_in}
 
 -- the ports of a unit with one more
 from_more : (u p n : ℕ) → ports_from u p (suc n) ≡ ports_from u p n ++ (record { unit = u; port = p + n } ∷ [])

@@ -1,11 +1,11 @@
 -- The outputs, and the inputs, by their numbers: each once, by unit, then port.
-use Rattle.std.proofs.Common.{◌≡◌, ℕ, zero, suc, ◌+◌, ◌-◌, ◌<◌, ◌≤◌, List, [], ◌∷◌, ◌++◌, length, get_or, Some, None, Option, refl, sym, ap, subst, ◌∙◌, ⊎_elim, arith}
+use Rattle.std.proofs.Common.{◌≡◌, ℕ, zero, suc, ◌+◌, ◌-◌, ◌<◌, ◌≤◌, List, [], ◌∷◌, length, get_or, sym, ap, subst, ◌∙◌, ⊎_elim, arith}
 use Rattle.std.specs.List.{slice_get}
 use Rattle.std.proofs.lemmas.Bool.{cases_lt}
 use Rattle.std.proofs.lemmas.List.{length-append, get_or_append_left, get_or-append_right}
 use Rattle.rig.specs.Units.{RigUnit}
 use Rattle.wiring.specs.declared.port.Port.{Port}
-use Rattle.set_up.specs.Outputs.{ports_from, ports_by, ports_at, ports_in, inputs_of, outputs_of, input_count, output_count, HasInput, HasOutput, no_port, Before, Numbers}
+use Rattle.set_up.specs.Outputs.{ports_from, ports_by, inputs_of, outputs_of, input_count, output_count, HasInput, HasOutput, no_port, Before, Numbers}
 use Rattle.set_up.proofs.Totals.{length_from, count_in, inputs_in, outputs_in}
 
 from_at : (u p n i : ℕ) → i < n → get_or (ports_from u p n) i no_port ≡ record { unit = u; port = p + i }

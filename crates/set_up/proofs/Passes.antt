@@ -1,6 +1,5 @@
 -- What the causes and the search tell of the set-up.
-use Rattle.std.proofs.Common.{◌≡◌, ℕ, ◌<◌, ◌≤◌, Bool, true, false, cond, ◌&&◌, nat_lt, List, length, is_some, Some, None, Option, refl, sym, ap, subst, ◌∙◌, ⊎_elim, arith}
-use Rattle.std.specs.List.{slice_get}
+use Rattle.std.proofs.Common.{◌≡◌, ℕ, ◌<◌, ◌≤◌, Bool, true, false, cond, ◌&&◌, nat_lt, List, length, Some, None, Option, refl, ap, ◌∙◌, ⊎_elim, arith}
 use Rattle.std.specs.Option.{IsSome}
 use Rattle.std.proofs.lemmas.Bool.{cases_lt, and_parts, ltb-true}
 use Rattle.rig.specs.Units.{RigUnit}
@@ -9,9 +8,9 @@ use Rattle.wiring.specs.declared.table.Wiring.{Wiring}
 use Rattle.wiring.specs.Wires.{source_of}
 use Rattle.graph.specs.Order.{IsCircle}
 use Rattle.set_up.specs.declared.table.Outputs.{Outputs}
-use Rattle.set_up.specs.Outputs.{outputs_of, output_at, mask_at, reads, feeds, ports_at, HasInput, HasOutput, Supplies}
-use Rattle.set_up.specs.Passing.{IsFresh, Touches, Passes}
-use Rattle.set_up.specs.Causes.{IsUnwired, Joined}
+use Rattle.set_up.specs.Outputs.{outputs_of, output_at, mask_at, reads, feeds, ports_at, HasInput, HasOutput}
+use Rattle.set_up.specs.Passing.{Touches, Passes}
+use Rattle.set_up.specs.Causes.{Joined}
 use Rattle.set_up.specs.Listing.{entry, feeds_in, Lists}
 use Rattle.set_up.proofs.Using.{fresh_unless}
 

@@ -1,6 +1,6 @@
 -- When an output reads what another supplies.
-use Rattle.std.proofs.Common.{⊎_elim, ◌≡◌, ℕ, zero, suc, ◌<◌, Bool, true, false, ◌&&◌, Some, None, Option, Decides, refl, sym, ap, arith}
-use Rattle.std.proofs.lemmas.Bool.{and_parts, cases_Bool}
+use Rattle.std.proofs.Common.{⊎_elim, ◌≡◌, ℕ, ◌<◌, true, false, Some, None, Option, Decides, refl, ap}
+use Rattle.std.proofs.lemmas.Bool.{cases_Bool}
 use Rattle.std.proofs.lemmas.Bool.Decides.{Decides-eqb, Decides-and, Decides-like, Decides-below_or}
 use Rattle.rig.specs.Laws.{bit}
 use Rattle.wiring.specs.declared.port.Port.{Port}

@@ -1,5 +1,5 @@
 -- From the search of the table to the answer of the check.
-use Rattle.std.proofs.Common.{◌≡◌, ℕ, List, length, Ok, Err, Result, sym, ap, subst, ◌∙◌, get_or}
+use Rattle.std.proofs.Common.{◌≡◌, ℕ, List, length, Ok, Err, Result, subst, ◌∙◌, get_or}
 use Rattle.rig.specs.Units.{RigUnit}
 use Rattle.wiring.specs.declared.port.Port.{Port}
 use Rattle.wiring.specs.declared.table.Wiring.{Wiring}
@@ -10,7 +10,7 @@ use Rattle.graph.specs.declared.found.Found.TheVariants.{Order, Circle}
 use Rattle.graph.specs.declared.fault.ListFault.TheVariants.{CircleLength, MarksLength}
 use Rattle.graph.specs.declared.found.NodeOrder.{NodeOrder}
 use Rattle.set_up.specs.declared.table.Outputs.{Outputs}
-use Rattle.set_up.specs.Outputs.{outputs_of, feeds, output_at}
+use Rattle.set_up.specs.Outputs.{outputs_of, feeds}
 use Rattle.set_up.specs.Causes.{Joined, Passed, Circled}
 use Rattle.set_up.specs.Listing.{entry, feeds_in, Lists}
 use Rattle.set_up.proofs.Passes.{same_feeds, passes}

@@ -1,10 +1,9 @@
 -- How many ports the first units have.
-use Rattle.std.proofs.Common.{◌≡◌, ℕ, zero, suc, ◌+◌, ◌<◌, ◌≤◌, List, [], ◌∷◌, ◌++◌, length, take, Some, None, Option, refl, sym, ap, ◌∙◌, append_assoc, add-one, arith}
+use Rattle.std.proofs.Common.{◌≡◌, ℕ, zero, suc, ◌+◌, List, [], ◌∷◌, ◌++◌, length, take, Some, None, Option, refl, sym, ap, ◌∙◌, append_assoc, add-one, arith}
 use Rattle.std.specs.List.{slice_get}
 use Rattle.std.proofs.lemmas.List.{append-nil, length-append}
 use Rattle.rig.specs.Units.{RigUnit}
-use Rattle.wiring.specs.declared.port.Port.{Port}
-use Rattle.set_up.specs.Outputs.{ports_from, ports_by, ports_in, ports_at, input_count, output_count}
+use Rattle.set_up.specs.Outputs.{ports_from, ports_by, ports_in, input_count, output_count}
 
 pub length_from : (u p n : ℕ) → length (ports_from u p n) ≡ n
 length_from u p zero = refl

@@ -1,12 +1,11 @@
 -- What a status tells of its unit.
-use Rattle.std.proofs.Common.{◌≡◌, ℕ, zero, suc, ◌<◌, Bool, true, false, not, ◌||◌, List, is_some, Some, None, Ok, Err, Option, Decides, refl, sym, subst, ◌∙◌, ⊎_elim, arith, Result}
+use Rattle.std.proofs.Common.{◌≡◌, ℕ, zero, suc, ◌<◌, true, false, not, List, is_some, Some, None, Ok, Err, Option, Decides, refl, sym, subst, ◌∙◌, ⊎_elim, arith, Result}
 use Rattle.std.specs.List.{slice_get}
 use Rattle.std.proofs.lemmas.Bool.{or_parts, or_from, cases_Bool}
-use Rattle.std.proofs.lemmas.Option.{slice_get_within}
 use Rattle.rig.specs.declared.cause.RigFault.{RigFault}
 use Rattle.rig.specs.declared.cause.Target.TheVariants.{Whole}
 use Rattle.rig.specs.declared.shape.Status.{Status}
-use Rattle.rig.specs.Units.{RigUnit, Held, place_of}
+use Rattle.rig.specs.Units.{RigUnit, place_of}
 use Rattle.rig.specs.Calls.{answer_of, answer_in, blamed, status, status_of, filled_at}
 use Rattle.set_up.specs.Passing.{IsFresh}
 use Rattle.set_up.specs.Causes.{is_used, IsInUse}

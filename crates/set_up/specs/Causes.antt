@@ -1,7 +1,6 @@
 -- Why a set-up is refused: the first cause in their order, at its lowest unit and port.
-use Rattle.std.specs.Prelude.{◌≡◌, ℕ, ◌<◌, ◌≤◌, Bool, false, ◌||◌, List, length, replicate, slice_index, slice_index_or, Some, None, Option, Ok, Err, Result, is_ok, Decides}
+use Rattle.std.specs.Prelude.{◌≡◌, ℕ, ◌<◌, Bool, false, ◌||◌, List, length, replicate, slice_index, slice_index_or, Some, None, Ok, Err, Result, is_ok, Decides}
 use Rattle.std.specs.List.{slice_get}
-use Rattle.std.specs.Option.{IsSome}
 use Rattle.rig.specs.declared.shape.Status.{Status}
 use Rattle.rig.specs.Units.{RigUnit}
 use Rattle.wiring.specs.declared.port.Port.{Port}

@@ -1,6 +1,5 @@
 -- Refusals of a check by their numbers. They are of layer 2; a and b are a unit and a port, 0 where they mean nothing.
 use Rattle.std.specs.Prelude.{ℕ}
-use Rattle.wiring.specs.declared.port.Port.{Port}
 use Rattle.set_up.specs.declared.fault.CheckFault.{CheckFault}
 use Rattle.set_up.specs.declared.fault.CheckFault.TheVariants.{ListLength, Size, InUse, Lacking, Unwired, Circle}
 use Rattle.refusal.specs.declared.Code.{Code}

@@ -1,5 +1,5 @@
 -- The inputs and outputs of a rig's units, numbered from 0 by unit, then port, and which output feeds which.
-use Rattle.std.specs.Prelude.{◌≡◌, ℕ, zero, suc, ◌+◌, ◌<◌, ◌≤◌, Bool, true, false, cond, ◌&&◌, ◌||◌, List, [], ◌∷◌, ◌++◌, length, Some, None, Option, nat_eq, nat_lt, slice_index, slice_index_or}
+use Rattle.std.specs.Prelude.{◌≡◌, ℕ, zero, suc, ◌+◌, ◌<◌, ◌≤◌, Bool, false, cond, ◌&&◌, ◌||◌, List, [], ◌∷◌, ◌++◌, length, Some, None, Option, nat_eq, nat_lt, slice_index, slice_index_or, Decides}
 use Rattle.std.specs.List.{slice_get}
 use Rattle.rig.specs.declared.shape.Ports.{Ports}
 use Rattle.rig.specs.Units.{RigUnit}
@@ -107,3 +107,8 @@ output_at us n = slice_index_or (outputs_of us) n no_port
 abbrev pub feeds : {S : Type 0} → List (RigUnit S) → Wiring → ℕ → ℕ → Bool
 feeds us w a b = cond (nat_lt a (length (outputs_of us)) && nat_lt b (length (outputs_of us)))
     (reads w (output_at us a) (output_at us b).unit (mask_at us (output_at us b))) false
+
+-- what the numbers of the outputs mean, and when one feeds another
+pub record Means {S : Type 0} (us : List (RigUnit S)) (w : Wiring) : Type 0 where
+  pub numbered : Numbers (HasOutput us) (outputs_of us)
+  pub feeding : (a b : ℕ) → a < length (outputs_of us) → b < length (outputs_of us) → Decides (feeds us w a b) (Feeds us w (output_at us a) (output_at us b))

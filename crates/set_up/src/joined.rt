@@ -1,4 +1,5 @@
 ghost use Rattle.std.specs.Prelude.{◌≡◌};
+ghost use Rattle.set_up.specs.Outputs.{Means};
 ghost use Rattle.set_up.specs.Causes.{Checked, Exactly};
 
 use crate::checking::checked;
@@ -33,6 +34,7 @@ impl<R: Rig> SetUp<R> {
     #[tactic(auto, using(crate::proofs::Exact::exactly))]
     pub fn check(&self, circle: &mut [u8], marks: &mut [u8]) -> Result<NodeOrder, CheckFault>
         ensures answer { Checked (R.model self.now.rig) self.now.wiring circle.old circle.new marks.old marks.new result }
+        ensures means { Means (R.model self.now.rig) self.now.wiring }
         ensures exact { Exactly (R.model self.now.rig) self.now.wiring circle.old marks.old result }
     {
         checked(&self.rig, &self.wiring, circle, marks)

@@ -1,4 +1,4 @@
-use Rattle.std.proofs.Common.{◌≡◌, ℕ, ◌<◌}
+use Rattle.std.proofs.Common.{◌≡◌, ◌<◌}
 use Rattle.wiring.specs.declared.port.Port.{Port}
 use Rattle.set_up.specs.Causes.{IsUnwired}
 use Rattle.set_up.proofs.causes.first_unwired.Given as goal

@@ -1,6 +1,6 @@
 use Rattle.std.proofs.Common.{Decides, sym, subst, ◌∙◌}
 use Rattle.set_up.specs.Causes.{IsInUse}
-use Rattle.set_up.proofs.Using.{told_used, told_none}
+use Rattle.set_up.proofs.Using.{told_used}
 use Rattle.set_up.proofs.causes.is_in_use.Goals as goal
 
 pub returns-in-Ok : goal.returns-in-Ok

@@ -1,4 +1,4 @@
-use Rattle.std.proofs.Common.{sym, refl, arith}
+use Rattle.std.proofs.Common.{sym, arith}
 use Rattle.set_up.proofs.Reading.{some_reads, none_reads}
 use Rattle.set_up.proofs.feeding.reads.Goals as goal
 

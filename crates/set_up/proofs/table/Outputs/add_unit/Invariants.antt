@@ -1,4 +1,4 @@
-use Rattle.std.proofs.Common.{◌≡◌, ◌+◌, ◌++◌, List, length}
+use Rattle.std.proofs.Common.{◌≡◌, ◌+◌, ◌++◌, List}
 use Rattle.wiring.specs.declared.port.Port.{Port}
 use Rattle.set_up.specs.Outputs.{ports_from}
 use Rattle.set_up.specs.Listing.{Lists}

@@ -1,4 +1,4 @@
-use Rattle.std.proofs.Common.{take, arith}
+use Rattle.std.proofs.Common.{take}
 use Rattle.set_up.specs.Outputs.{outputs_of}
 use Rattle.set_up.proofs.Listed.{room, unit_listed}
 use Rattle.set_up.proofs.table.Outputs.list.Goals as goal
