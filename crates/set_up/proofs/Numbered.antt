@@ -1,11 +1,12 @@
 -- The outputs, and the inputs, by their numbers: each once, by unit, then port.
-use Rattle.std.proofs.Common.{◌≡◌, ℕ, zero, suc, ◌+◌, ◌-◌, ◌<◌, ◌≤◌, List, [], ◌∷◌, length, get_or, sym, ap, subst, ◌∙◌, ⊎_elim, arith}
+use Rattle.std.proofs.Common.{◌≡◌, ℕ, zero, suc, ◌+◌, ◌-◌, ◌<◌, ◌≤◌, Some, None, List, [], ◌∷◌, length, take, get_or, sym, ap, subst, ◌∙◌, ⊎_elim, arith}
 use Rattle.std.specs.List.{slice_get}
 use Rattle.std.proofs.lemmas.Bool.{cases_lt}
-use Rattle.std.proofs.lemmas.List.{length-append, get_or_append_left, get_or-append_right}
+use Rattle.std.proofs.lemmas.List.{take_all, length-append, get_or_append_left, get_or-append_right}
+use Rattle.std.proofs.lemmas.Option.{slice_get-get_or, slice_get_past}
 use Rattle.rig.specs.Units.{RigUnit}
 use Rattle.wiring.specs.declared.port.Port.{Port}
-use Rattle.set_up.specs.Outputs.{ports_from, ports_by, inputs_of, outputs_of, input_count, output_count, HasInput, HasOutput, no_port, Before, Numbers}
+use Rattle.set_up.specs.Outputs.{ports_at, ports_from, ports_by, inputs_of, outputs_of, input_count, output_count, HasInput, HasOutput, no_port, Before, Numbers}
 use Rattle.set_up.proofs.Totals.{length_from, count_in, inputs_in, outputs_in}
 
 from_at : (u p n i : ℕ) → i < n → get_or (ports_from u p n) i no_port ≡ record { unit = u; port = p + i }
@@ -97,6 +98,42 @@ module _ {S : Type 0} (count : RigUnit S → ℕ) where
     all = λ p h. all 0 us p p.unit (omega arith) (out p h);
     in_order = λ m n lt ln. ordered 0 us m n lt ln;
   }
+
+-- the output with port i of unit u stands after those of the units below u
+module _ {S : Type 0} (count : RigUnit S → ℕ) where
+  placed : (k : ℕ) (us : List (RigUnit S)) (u i : ℕ) → i < count_in count (slice_get us u)
+      → (length (ports_by count k (take u us)) + i < length (ports_by count k us))
+      × (get_or (ports_by count k us) (length (ports_by count k (take u us)) + i) no_port ≡ record { unit = k + u; port = i })
+  placed k [] zero i lt = absurd (omega arith)
+  placed k [] (suc u) i lt = absurd (omega arith)
+  placed k (x ∷ us) zero i lt =
+      let l = long count k x us in
+      let e : k ≡ k + 0 = omega arith in
+      let z : 0 + i ≡ i = omega arith in
+      (omega arith, ap (λ n. get_or (ports_by count k (x ∷ us)) n no_port) z ∙ first_at count k x us i lt ∙ ap (λ p. record { unit = k; port = p }) z ∙ ap (λ v. record { unit = v; port = i }) e)
+  placed k (x ∷ us) (suc u) i lt =
+      let l = long count k x us in
+      let m = long count k x (take u us) in
+      let r = placed (k + 1) us u i lt in
+      let less = r.0 in
+      let n = length (ports_by count k (x ∷ take u us)) + i in
+      let z : n - count x ≡ length (ports_by count (k + 1) (take u us)) + i = omega arith in
+      let e : k + 1 + u ≡ k + suc u = omega arith in
+      (omega arith, rest_at count k x us n (omega arith) ∙ ap (λ j. get_or (ports_by count (k + 1) us) j no_port) z ∙ r.1 ∙ ap (λ v. record { unit = v; port = i }) e)
+
+pub output_found : {S : Type 0} (us : List (RigUnit S)) (u i n : ℕ) → i + length (outputs_of (take u us)) ≡ n → i < (ports_at us u).outputs
+    → slice_get (outputs_of us) n ≡ Some (record { unit = u; port = i })
+output_found us u i n e lt =
+    let p = placed output_count 0 us u i (subst (λ z. i < z) (outputs_in (slice_get us u)) lt) in
+    let q : length (outputs_of (take u us)) + i ≡ n = omega arith in
+    let z : 0 + u ≡ u = omega arith in
+    let less : n < length (outputs_of us) = subst (λ j. j < length (outputs_of us)) q p.0 in
+    slice_get-get_or (outputs_of us) n no_port less ∙ ap (λ x. Some x) (ap (λ j. get_or (outputs_of us) j no_port) (sym q) ∙ p.1 ∙ ap (λ v. record { unit = v; port = i }) z)
+
+pub output_past : {S : Type 0} (us : List (RigUnit S)) (u i n : ℕ) → i + length (outputs_of (take u us)) ≡ n → length us ≤ u → slice_get (outputs_of us) n ≡ None
+output_past us u i n e le =
+    let a = ap (λ vs. length (outputs_of vs)) (take_all u us le) in
+    slice_get_past (outputs_of us) n (omega arith)
 
 -- the numbers of the outputs, and of the inputs
 pub outputs_numbered : {S : Type 0} (us : List (RigUnit S)) → Numbers (HasOutput us) (outputs_of us)

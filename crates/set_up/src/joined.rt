@@ -1,11 +1,14 @@
 ghost use Rattle.std.specs.Prelude.{◌≡◌};
-ghost use Rattle.set_up.specs.Outputs.{Means};
+ghost use Rattle.std.specs.List.{slice_get};
+ghost use Rattle.set_up.specs.Outputs.{outputs_of, Means};
 ghost use Rattle.set_up.specs.Causes.{Checked, Exactly};
 
 use crate::checking::checked;
 use crate::fault::CheckFault;
+use crate::units::output;
 use graph::found::NodeOrder;
 use rig::Rig;
+use wiring::port::Port;
 use wiring::table::Wiring;
 
 /// A rig and its wiring, instantiated: it is moved on and taken apart, never let go.
@@ -38,5 +41,12 @@ impl<R: Rig> SetUp<R> {
         ensures exact { Exactly (R.model self.now.rig) self.now.wiring circle.old marks.old result }
     {
         checked(&self.rig, &self.wiring, circle, marks)
+    }
+
+    /// The output with this number.
+    pub fn output(&self, number: usize) -> Option<Port>
+        ensures { result ≡ slice_get (outputs_of (R.model self.now.rig)) number }
+    {
+        output(&self.rig, number)
     }
 }

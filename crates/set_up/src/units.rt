@@ -1,6 +1,7 @@
 // What a rig tells of its units, where a unit or port that it lacks has nothing.
 ghost use Rattle.std.specs.Prelude.{◌≡◌};
-ghost use Rattle.set_up.specs.Outputs.{ports_at, mask_at};
+ghost use Rattle.std.specs.List.{slice_get};
+ghost use Rattle.set_up.specs.Outputs.{ports_at, mask_at, outputs_of};
 
 use rig::Rig;
 use rig::shape::Ports;
@@ -27,4 +28,19 @@ pub(crate) fn mask<R: Rig>(rig: &R, output: Port) -> u8
         Ok(mask) => mask,
         Err(_) => 0,
     }
+}
+
+/// The output with this number, by unit, then port.
+pub(crate) fn output<R: Rig>(rig: &R, number: usize) -> Option<Port>
+    ensures { result ≡ slice_get (outputs_of (R.model rig.now)) number }
+{
+    let mut left = number;
+    for unit in 0..rig.units() {
+        let outputs = ports(rig, unit).outputs;
+        if left < outputs {
+            return Some(Port { unit, port: left });
+        }
+        left -= outputs;
+    }
+    None
 }
