@@ -28,10 +28,10 @@ module _ {S : Type 0} (us : List (RigUnit S)) (w : Wiring) (t : Outputs) (circle
       let q = of_units (Ok (Order order)) l s in
       record {
         both_long = j.touching.unused.sized.both_long;
-        passes = passes us w circle marks j q.2.1.no_circle;
-        all = q.2.0;
-        in_order = q.2.1;
-        circle_kept = q.2.2;
+        passes = passes us w circle marks j q.2.0.no_circle;
+        all = q.2.0.whole;
+        in_order = q.2.0.is_order;
+        circle_kept = q.2.1;
         marks_clear = q.3;
       }
 

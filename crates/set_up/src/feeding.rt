@@ -4,7 +4,7 @@ ghost use Rattle.set_up.specs.Outputs.{ReadsAt, reads};
 ghost use Rattle.set_up.specs.Listing.{feeds_in};
 
 use crate::table::Outputs;
-use graph::graph::Graph;
+use graph::Graph;
 use wiring::port::Port;
 use wiring::table::Wiring;
 
