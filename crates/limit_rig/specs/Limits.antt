@@ -59,3 +59,8 @@ step_cause false h = NoSuch
 abbrev pub Unflagged : List Bool → ℕ → Target → Bool → Result (Unit {0}) RigFault → Type 0
 Unflagged flags u t there (Ok r) = slice_index_or flags u false ≡ false
 Unflagged flags u t there (Err f) = (slice_index_or flags u false ≡ true) × (f ≡ record { cause = loose_if there; unit = u; target = t })
+
+-- the same by an answer that something says, which need be asked only where the flag is set
+abbrev pub UnflaggedBy : (Bool → Type 0) → List Bool → ℕ → Target → Result (Unit {0}) RigFault → Type 0
+UnflaggedBy Says flags u t (Ok r) = slice_index_or flags u false ≡ false
+UnflaggedBy Says flags u t (Err f) = (there : Bool) × Says there × Unflagged flags u t there (Err f)

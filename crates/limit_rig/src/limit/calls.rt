@@ -1,7 +1,7 @@
 // A rig under a limit behind the interface of a rig.
 ghost use Rattle.std.specs.Prelude.{◌≡◌, false, is_some, slice_index_or};
 ghost use Rattle.std.specs.List.{slice_get};
-ghost use Rattle.limit_rig.specs.Limits.{units_under, input_in, output_in, Unflagged};
+ghost use Rattle.limit_rig.specs.Limits.{units_under, input_in, output_in, UnflaggedBy};
 ghost use Rattle.limit_rig.specs.Covering.{sound_under};
 
 use super::Limit;
@@ -19,11 +19,18 @@ impl<R: Rig> Limit<R> {
     }
 
     /// Refuses a unit that is loose by its flag, by whether what was asked for is there.
-    fn unflagged(&self, unit: usize, target: Target, there: bool) -> Result<(), RigFault>
-        ensures { Unflagged self.now.flags unit target there result }
+    // A closure says whether it is, so that only a refusal asks the rig below, which may itself be a limit over others.
+    fn unflagged<F: FnOnce() -> bool>(
+        &self,
+        unit: usize,
+        target: Target,
+        there: F,
+    ) -> Result<(), RigFault>
+        requires { F.IsAlwaysCallable there }
+        ensures { UnflaggedBy (F.post there) self.now.flags unit target result }
     {
         if self.is_flagged(unit) {
-            return Err(RigFault::new(loose_if(there), unit, target));
+            return Err(RigFault::new(loose_if(there()), unit, target));
         }
         Ok(())
     }
@@ -89,13 +96,13 @@ impl<R: Rig> Rig for Limit<R> {
 
     /// Sets an input below, unless the flag is set.
     fn put(&mut self, unit: usize, port: usize, value: R::Signal) -> Result<(), RigFault> {
-        self.unflagged(unit, Target::Port(port), self.has_input(unit, port))?;
+        self.unflagged(unit, Target::Port(port), || self.has_input(unit, port))?;
         self.below.put(unit, port, value)
     }
 
     /// Reads an output below, unless the flag is set.
     fn get(&self, unit: usize, port: usize) -> Result<R::Signal, RigFault> {
-        self.unflagged(unit, Target::Port(port), self.has_output(unit, port))?;
+        self.unflagged(unit, Target::Port(port), || self.has_output(unit, port))?;
         self.below.get(unit, port)
     }
 
@@ -115,7 +122,9 @@ impl<R: Rig> Rig for Limit<R> {
 
     /// Saves below, unless the flag is set.
     fn save(&mut self, unit: usize, place: usize) -> Result<(), RigFault> {
-        self.unflagged(unit, Target::Place(place), self.has_unit(unit) && place < 4)?;
+        self.unflagged(unit, Target::Place(place), || {
+            self.has_unit(unit) && place < 4
+        })?;
         self.below.save(unit, place)
     }
 
