@@ -25,11 +25,12 @@ pub struct RefusedFile<'a> {
 /// As `load refused 15 1 3 2: units.csv:3: field 2: name 'winch' is used already`.
 impl fmt::Display for RefusedFile<'_> {
     fn fmt<W: fmt::Write>(&self, f: &mut fmt::Formatter<W>) -> fmt::Result {
-        let FileFault { line, fault } = self.fault;
+        let line = self.fault.line;
         let code = Code::from(self.fault);
         write!(f, "load refused {code}: {}:{line}: ", self.path)?;
-        if let Some(field) = fault.field() {
-            write!(f, "field {field}: ")?;
+        // By the code, in which 0 stands for no field.
+        if code.b > 0 {
+            write!(f, "field {}: ", code.b)?;
         }
         self.put_words(f)
     }

@@ -5,7 +5,7 @@
 mod tests {
     use file_rig::table::FileRig;
     use kinds::design::Design;
-    use lines::fault::FileFault;
+    use lines::fault::{FileFault, LineFault};
     use load::fault::LoadFault;
     use load::units::load_units;
     use load::wires::load_wires;
@@ -279,6 +279,26 @@ mod tests {
             ),
         ];
         check_cases(&rt, rt.alloc(), &cases)
+    }
+
+    // A fault with field 0, which a host may make and no load answers: no field is told.
+    #[test]
+    fn no_field(rt: HostRuntime) -> Result<(), Fail> {
+        let refused = RefusedFile {
+            path: "boat.csv",
+            file: FileKind::Units,
+            bytes: BOAT,
+            fault: FileFault {
+                line: 2,
+                fault: LineFault::NoUnit { field: 0 },
+            },
+        };
+        check_text(
+            &rt,
+            rt.alloc(),
+            &refused,
+            "load refused 17 1 2 0: boat.csv:2: no unit is named 'K'",
+        )
     }
 
     // The name with this text.

@@ -1,6 +1,6 @@
--- The table of a wiring, with one wire written into it.
-use Rattle.std.proofs.Common.{◌≡◌, ℕ, ◌≤◌, ◌⊎◌, List, [], map, length, get_or, set, replicate, Some, None, Option, sym, ap, ◌∙◌, inl, inr, arith}
-use Rattle.std.proofs.lemmas.List.{length-map, get_or-map, get_or-replicate, get_or-set_same, get_or-set_other, length-set, map-set, set-get_or}
+-- The table of a wiring: reading past it, and writing one wire into it.
+use Rattle.std.proofs.Common.{◌≡◌, ℕ, ◌<◌, ◌≤◌, ◌⊎◌, List, [], map, length, get_or, set, replicate, Some, None, Option, sym, ap, ◌∙◌, inl, inr, arith}
+use Rattle.std.proofs.lemmas.List.{length-map, get_or-map, get_or-replicate, get_or_past, get_or-set_same, get_or-set_other, length-set, map-set, set-get_or}
 use Rattle.std.proofs.lemmas.Bool.{cases_eq}
 use Rattle.wiring.specs.declared.port.Port.{Port}
 use Rattle.wiring.specs.declared.table.Wiring.{Wiring}
@@ -27,6 +27,11 @@ module _ (w : Wiring) where
 
   eight : (u : ℕ) → u ≤ 15 → length (row_of w u) ≡ 8
   eight u l = sym (length_row u l) ∙ ap (λ ns. get_or ns u 0) w.full ∙ get_or-replicate 16 u 8 0 (omega arith)
+
+  -- past the table there is no wire
+  pub past_table : (u i : ℕ) → (15 < u) ⊎ ((u ≤ 15) × (7 < i)) → source_of w u i ≡ None
+  past_table u i (inl l) = let n = sixteen in ap (λ row. get_or row i None) (get_or_past w.rows u [] (omega arith))
+  past_table u i (inr (l, m)) = let n = eight u l in get_or_past (row_of w u) i None (omega arith)
 
   module _ (from to : Port) (range : InRange from to) where
     -- the table is as large as it was
