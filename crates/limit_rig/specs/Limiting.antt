@@ -1,5 +1,5 @@
 -- The units under a limit, told from those below: how many there are, each of them, and what a write below makes of them.
-use Rattle.std.specs.Prelude.{◌≡◌, ℕ, zero, suc, ◌≤◌, Bool, false, List, [], ◌∷◌, length, slice_index_or, slice_set, refl}
+use Rattle.std.specs.Prelude.{◌≡◌, ℕ, zero, suc, ◌<◌, ◌≤◌, Bool, false, List, [], ◌∷◌, length, slice_index_or, slice_set, refl}
 use Rattle.std.proofs.Common.{ap, arith}
 use Rattle.std.specs.List.{slice_get}
 use Rattle.std.specs.Option.{option_map}
@@ -33,19 +33,27 @@ set_below m [] (x ∷ us) (suc u) y = ap (λ z. unit_under m false x ∷ z) (set
 set_below m (f ∷ fs) (x ∷ us) zero y = refl
 set_below m (f ∷ fs) (x ∷ us) (suc u) y = ap (λ z. unit_under m f x ∷ z) (set_below m fs us u y)
 
--- a write below, with a new flag
-set_with_flag : {S : Type 0} (m : ℕ) (fs : List Bool) (us : List (RigUnit S)) (u : ℕ) (g : Bool) (y : RigUnit S) → length us ≤ length fs
+-- a write below, with a new flag: where the unit has a flag, and where every unit has one
+set_with_flag : {S : Type 0} (m : ℕ) (fs : List Bool) (us : List (RigUnit S)) (u : ℕ) (g : Bool) (y : RigUnit S) → u < length fs
     → units_under m (slice_set fs u g) (slice_set us u y) ≡ slice_set (units_under m fs us) u (unit_under m g y)
-set_with_flag m [] [] u g y h = refl
+set_with_flag m [] us u g y h = absurd (omega arith)
 set_with_flag m (f ∷ fs) [] zero g y h = refl
 set_with_flag m (f ∷ fs) [] (suc u) g y h = refl
-set_with_flag m [] (x ∷ us) u g y h = absurd (omega arith)
 set_with_flag m (f ∷ fs) (x ∷ us) zero g y h = refl
 set_with_flag m (f ∷ fs) (x ∷ us) (suc u) g y h = ap (λ z. unit_under m f x ∷ z) (set_with_flag m fs us u g y (omega arith))
 
+set_with_flags : {S : Type 0} (m : ℕ) (fs : List Bool) (us : List (RigUnit S)) (u : ℕ) (g : Bool) (y : RigUnit S) → length us ≤ length fs
+    → units_under m (slice_set fs u g) (slice_set us u y) ≡ slice_set (units_under m fs us) u (unit_under m g y)
+set_with_flags m [] [] u g y h = refl
+set_with_flags m (f ∷ fs) [] zero g y h = refl
+set_with_flags m (f ∷ fs) [] (suc u) g y h = refl
+set_with_flags m [] (x ∷ us) u g y h = absurd (omega arith)
+set_with_flags m (f ∷ fs) (x ∷ us) zero g y h = refl
+set_with_flags m (f ∷ fs) (x ∷ us) (suc u) g y h = ap (λ z. unit_under m f x ∷ z) (set_with_flags m fs us u g y (omega arith))
+
 pub set_flagged : {S : Type 0} (m : ℕ) (fs : List Bool) (us : List (RigUnit S)) (u : ℕ) (g : Bool) (y : RigUnit S) → Sound us → length fs ≡ 16
     → units_under m (slice_set fs u g) (slice_set us u y) ≡ slice_set (units_under m fs us) u (unit_under m g y)
-set_flagged m fs us u g y s w = set_with_flag m fs us u g y (omega (arith, s.few))
+set_flagged m fs us u g y s w = set_with_flags m fs us u g y (omega (arith, s.few))
 
 -- what the proofs of the calls under a limit go by
 pub ruleset limiting = (length_under, nth_under, set_below, set_flagged, set_nth)

@@ -1,6 +1,5 @@
-ghost use Rattle.std.specs.Prelude.{ℕ, ◌≤◌, length};
+ghost use Rattle.std.specs.Prelude.{ℕ, ◌≤◌};
 
-use unit_rig::list::UnitRig;
 use unit_rig::unit::Unit;
 
 /// One pair of a trip: a value, and for how many ticks it lasts.
@@ -27,8 +26,7 @@ pub struct Trip {
 /// The rig of a trip: one unit that plays it, or none without a pair.
 #[derive(Drop)]
 pub struct TripRig {
-    table: UnitRig<Unit<(), Trip>>,
-    ghost one: { length table.units.items ≤ 1 },
+    unit: Option<Unit<(), Trip>>,
 }
 
 pub mod calls;

@@ -1,16 +1,15 @@
 -- A call of the one unit that a list lends, as a call of the rig of that list.
-use Rattle.std.proofs.Common.{◌≡◌, ℕ, zero, suc, ◌<◌, ◌≤◌, List, [], ◌∷◌, map, length, get_or, set, Some, Err, Result, sym, refl, ap, ◌∙◌, subst, arith}
+use Rattle.std.proofs.Common.{◌≡◌, ℕ, ◌<◌, List, [], ◌∷◌, map, length, get_or, set, slice_index_or, Some, None, Option, Result, option_to_list, sym, refl, ap, ◌∙◌, subst, arith}
 use Rattle.std.specs.List.{slice_get}
 use Rattle.std.proofs.lemmas.Option.{slice_get-get_or, slice_get-map}
 use Rattle.std.specs.Option.{option_map}
 use Rattle.std.proofs.lemmas.List.{length-map, map-set}
 use Rattle.rig.specs.declared.cause.Cause.{Cause}
-use Rattle.rig.specs.declared.cause.Cause.TheVariants.{NoSuch}
 use Rattle.rig.specs.declared.cause.Target.{Target}
 use Rattle.rig.specs.declared.cause.RigFault.{RigFault}
 use Rattle.rig.specs.Units.{RigUnit}
 use Rattle.rig.specs.Calls.{Call, Called, answer_of, blamed}
-use Rattle.rig.proofs.Calling.{set_nth, answer_there, called_there, answer_missing, called_missing}
+use Rattle.rig.proofs.Calling.{set_nth, answer_there, called_there}
 use Rattle.unit_rig.specs.Lending.{LeftAs, Lent}
 
 pub nth_mapped : {X Y : Type 0} (f : X → Y) (xs : List X) (u : ℕ) (x : X) → slice_get xs u ≡ Some x → slice_get (map f xs) u ≡ Some (f x)
@@ -40,3 +39,16 @@ module _ {U L S T : Type 0} (model : U → RigUnit S) (label : U → L) (k : Cal
 -- no unit comes or goes
 pub lent_count : {U L S T : Type 0} {model : U → RigUnit S} {label : U → L} {k : Call S T} {xs ys : List U} {u : ℕ} {q : Result T RigFault} → Lent model label k xs u q ys → length ys ≡ length xs
 lent_count {label = label} {xs = xs} {ys = ys} d = sym (length-map ys label) ∙ ap length d.labels ∙ length-map xs label
+
+-- what an option ends as, where the slice of its one value, or of none, ended as ys
+kept_one : {U : Type 0} (o : Option U) (ys : List U) → length ys ≡ length (option_to_list o) → option_to_list (option_map (slice_index_or ys 0) o) ≡ ys
+kept_one None [] e = refl
+kept_one None (y ∷ ys) e = grind (arith, e)
+kept_one (Some x) [] e = grind (arith, e)
+kept_one (Some x) (y ∷ []) e = refl
+kept_one (Some x) (y ∷ z ∷ ys) e = grind (arith, e)
+
+pub called_one : {U L S T : Type 0} {model : U → RigUnit S} {label : U → L} {k : Call S T} (o p : Option U) {ys : List U} {u : ℕ} {q : Result T RigFault}
+    → Lent model label k (option_to_list o) u q ys → p ≡ option_map (slice_index_or ys 0) o → Called k (map model (option_to_list o)) u q (map model (option_to_list p))
+called_one {model = model} {k = k} o p {ys = ys} {u = u} {q = q} d e =
+    subst (λ zs. Called k (map model (option_to_list o)) u q (map model zs)) (sym (ap option_to_list e ∙ kept_one o ys (lent_count d))) d.call

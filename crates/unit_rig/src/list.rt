@@ -1,15 +1,15 @@
 // A rig of units in one list, numbered as they stand there.
 ghost use Rattle.std.specs.Prelude.{◌≡◌, ◌≤◌, [], map, length, take, vec_len};
-ghost use Rattle.rig.specs.Calls.{Call, Called, answer_of, put, step, save, restore, free};
+ghost use Rattle.rig.specs.Calls.{Called, put, step, save, restore, free};
 ghost use Rattle.unit_rig.specs.declared.list.PushFault.TheVariants.{NoMemory};
-ghost use Rattle.unit_rig.specs.Lending.{Reads, LeftAs, Changes, Lent};
+ghost use Rattle.unit_rig.specs.Lending.{Lent};
 ghost use Rattle.unit_rig.specs.Pushing.{Pushed};
 ghost use Rattle.unit_rig.specs.Soundness.{sound_list};
 
 use super::calls::UnitCalls;
+use super::numbered;
 use rig::Rig;
-use rig::cause::{Cause, RigFault, Target};
-use rig::numbering::blame;
+use rig::cause::RigFault;
 use rig::shape::{Ports, Status};
 use std::alloc::AllocFailed;
 use thiserror::Error;
@@ -75,43 +75,6 @@ impl<U: UnitCalls> UnitRig<U> {
         self.units.push(unit)?;
         Ok(number)
     }
-
-    /// Lends one unit to a function that reads it.
-    fn read<T, F: FnOnce(&U) -> Result<T, Cause>>(
-        &self,
-        unit: usize,
-        target: Target,
-        call: F,
-    ) -> Result<T, RigFault>
-        requires { F.IsAlwaysCallable call }
-        ensures { (k : Call U.Signal T) → k.target ≡ target → Reads F.FnOnce call U.UnitCalls.model k → result ≡ answer_of k (map U.UnitCalls.model self.now.units.items) unit }
-    {
-        let lent = self
-            .units
-            .get(unit)
-            .ok_or(RigFault::new(Cause::NoSuch, unit, target))?;
-        blame(call(lent), unit, target)
-    }
-
-    /// Lends one unit to a function that changes it.
-    // Apart from `read`: over `&` and `&mut` there is no generic. For every call that its closure makes: a ghost value of
-    // a type parameter's type, by which a caller would name the one, is not taken.
-    fn lend<T, F: FnOnce(&mut U) -> Result<T, Cause>>(
-        &mut self,
-        unit: usize,
-        target: Target,
-        call: F,
-    ) -> Result<T, RigFault>
-        requires { F.IsAlwaysCallable call }
-        ensures { (k : Call U.Signal T) → k.target ≡ target → Changes F.FnOnce call U.UnitCalls.model U.UnitCalls.label_of k
-            → Lent U.UnitCalls.model U.UnitCalls.label_of k self.old.units.items unit result self.new.units.items }
-    {
-        let lent = self
-            .units
-            .get_mut(unit)
-            .ok_or(RigFault::new(Cause::NoSuch, unit, target))?;
-        blame(call(lent), unit, target)
-    }
 }
 
 /// No call changes a label.
@@ -127,78 +90,48 @@ impl<U: UnitCalls> Rig for UnitRig<U> {
     }
 
     fn ports(&self, unit: usize) -> Result<Ports, RigFault> {
-        self.read(unit, Target::Whole, |lent| Ok(lent.ports()))
+        numbered::ports(&self.units, unit)
     }
 
     fn mask(&self, unit: usize, port: usize) -> Result<u8, RigFault> {
-        self.read(unit, Target::Port(port), |lent| lent.mask(port))
+        numbered::mask(&self.units, unit, port)
     }
 
     fn status(&self, unit: usize) -> Result<Status, RigFault> {
-        self.read(unit, Target::Whole, |lent| Ok(lent.status()))
+        numbered::status(&self.units, unit)
     }
 
     fn put(&mut self, unit: usize, port: usize, value: U::Signal) -> Result<(), RigFault>
         ensures { Lent U.UnitCalls.model U.UnitCalls.label_of (put port value) self.old.units.items unit result self.new.units.items }
     {
-        self.lend(
-            unit,
-            Target::Port(port),
-            |lent: &mut U| -> Result<(), Cause>
-                ensures { LeftAs U.UnitCalls.model U.UnitCalls.label_of (put port value) lent.old result lent.new }
-            { lent.put(port, value) },
-        )
+        numbered::put(&mut self.units, unit, port, value)
     }
 
     fn get(&self, unit: usize, port: usize) -> Result<U::Signal, RigFault> {
-        self.read(unit, Target::Port(port), |lent| lent.get(port))
+        numbered::get(&self.units, unit, port)
     }
 
     fn step(&mut self, unit: usize, h: u32) -> Result<u32, RigFault>
         ensures { Lent U.UnitCalls.model U.UnitCalls.label_of (step h) self.old.units.items unit result self.new.units.items }
     {
-        self.lend(
-            unit,
-            Target::Whole,
-            |lent: &mut U| -> Result<u32, Cause>
-                ensures { LeftAs U.UnitCalls.model U.UnitCalls.label_of (step h) lent.old result lent.new }
-            { lent.step(h) },
-        )
+        numbered::step(&mut self.units, unit, h)
     }
 
     fn save(&mut self, unit: usize, place: usize) -> Result<(), RigFault>
         ensures { Lent U.UnitCalls.model U.UnitCalls.label_of (save place) self.old.units.items unit result self.new.units.items }
     {
-        self.lend(
-            unit,
-            Target::Place(place),
-            |lent: &mut U| -> Result<(), Cause>
-                ensures { LeftAs U.UnitCalls.model U.UnitCalls.label_of (save place) lent.old result lent.new }
-            { lent.save(place) },
-        )
+        numbered::save(&mut self.units, unit, place)
     }
 
     fn restore(&mut self, unit: usize, place: usize) -> Result<(), RigFault>
         ensures { Lent U.UnitCalls.model U.UnitCalls.label_of (restore place) self.old.units.items unit result self.new.units.items }
     {
-        self.lend(
-            unit,
-            Target::Place(place),
-            |lent: &mut U| -> Result<(), Cause>
-                ensures { LeftAs U.UnitCalls.model U.UnitCalls.label_of (restore place) lent.old result lent.new }
-            { lent.restore(place) },
-        )
+        numbered::restore(&mut self.units, unit, place)
     }
 
     fn free(&mut self, unit: usize, place: usize) -> Result<(), RigFault>
         ensures { Lent U.UnitCalls.model U.UnitCalls.label_of (free place) self.old.units.items unit result self.new.units.items }
     {
-        self.lend(
-            unit,
-            Target::Place(place),
-            |lent: &mut U| -> Result<(), Cause>
-                ensures { LeftAs U.UnitCalls.model U.UnitCalls.label_of (free place) lent.old result lent.new }
-            { lent.free(place) },
-        )
+        numbered::free(&mut self.units, unit, place)
     }
 }

@@ -5,10 +5,10 @@ use super::TripRig;
 use rig::Rig;
 use rig::cause::RigFault;
 use rig::shape::{Ports, Status};
+use unit_rig::numbered;
 
-/// Each call is that of the list with the one unit.
-// Not an alias of `UnitRig`: `new` is a method, and a type of another crate takes none.
-#[tactic(auto, using(unit_rig::proofs::Listing::lent_count))]
+/// Each call is that of a slice of the one unit, or of none.
+#[tactic(auto, using(unit_rig::proofs::Listing::called_one))]
 impl Rig for TripRig {
     type Signal = i32;
 
@@ -17,42 +17,42 @@ impl Rig for TripRig {
     ghost sound = { sound_trip };
 
     fn units(&self) -> usize {
-        self.table.units()
+        self.unit.as_slice().len()
     }
 
     fn ports(&self, unit: usize) -> Result<Ports, RigFault> {
-        self.table.ports(unit)
+        numbered::ports(self.unit.as_slice(), unit)
     }
 
     fn mask(&self, unit: usize, port: usize) -> Result<u8, RigFault> {
-        self.table.mask(unit, port)
+        numbered::mask(self.unit.as_slice(), unit, port)
     }
 
     fn status(&self, unit: usize) -> Result<Status, RigFault> {
-        self.table.status(unit)
+        numbered::status(self.unit.as_slice(), unit)
     }
 
     fn put(&mut self, unit: usize, port: usize, value: i32) -> Result<(), RigFault> {
-        self.table.put(unit, port, value)
+        numbered::put(self.unit.as_mut_slice(), unit, port, value)
     }
 
     fn get(&self, unit: usize, port: usize) -> Result<i32, RigFault> {
-        self.table.get(unit, port)
+        numbered::get(self.unit.as_slice(), unit, port)
     }
 
     fn step(&mut self, unit: usize, h: u32) -> Result<u32, RigFault> {
-        self.table.step(unit, h)
+        numbered::step(self.unit.as_mut_slice(), unit, h)
     }
 
     fn save(&mut self, unit: usize, place: usize) -> Result<(), RigFault> {
-        self.table.save(unit, place)
+        numbered::save(self.unit.as_mut_slice(), unit, place)
     }
 
     fn restore(&mut self, unit: usize, place: usize) -> Result<(), RigFault> {
-        self.table.restore(unit, place)
+        numbered::restore(self.unit.as_mut_slice(), unit, place)
     }
 
     fn free(&mut self, unit: usize, place: usize) -> Result<(), RigFault> {
-        self.table.free(unit, place)
+        numbered::free(self.unit.as_mut_slice(), unit, place)
     }
 }

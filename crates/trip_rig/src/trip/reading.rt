@@ -6,7 +6,6 @@ ghost use Rattle.trip_rig.specs.Rigs.{units_of};
 
 use super::{Position, Segment, Trip, TripRig};
 use std::alloc::{AllocError, Global};
-use unit_rig::list::UnitRig;
 use unit_rig::unit::Unit;
 
 /// A trip plays at most this many pairs.
@@ -60,7 +59,6 @@ impl TripRig {
     {
         let segments = read(heap, numbers, MOST_PAIRS)?;
         let unit = start(&segments).and_then(|position| Unit::new((), Trip { segments }, position));
-        let table = UnitRig::from_units(unit.into_iter().collect(heap)?);
-        Ok(TripRig { table })
+        Ok(TripRig { unit })
     }
 }

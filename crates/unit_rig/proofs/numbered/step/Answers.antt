@@ -1,6 +1,6 @@
 use Rattle.std.proofs.Common.{rules, refl}
 use Rattle.rig.specs.Calls.{step}
-use Rattle.unit_rig.proofs.list.UnitRigRig.step.Goals as goal
+use Rattle.unit_rig.proofs.numbered.step.Goals as goal
 
 pub returns : goal.returns
 returns g c = c.lend.ensures (step c.args.h) refl (λ x r y called. search rules)
